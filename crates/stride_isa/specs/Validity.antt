@@ -1,0 +1,46 @@
+-- Which programs are valid: by the pairs of position and stack depth that a thread can reach.
+use Rattle.std.specs.Prelude.{◌≡◌, ℕ, ◌+◌, ◌-◌, ◌<◌, ◌≤◌, length}
+use Rattle.stride_isa.specs.Instructions.{kind, popped, pushed}
+use Rattle.stride_isa.specs.Listing.{Listing, IsWithinLimits, code_of, op_at, decl_at}
+use Rattle.stride_isa.specs.declared.decl.Shape.TheVariants.{Single}
+use Rattle.stride_isa.specs.declared.op.Op.{Op}
+use Rattle.stride_isa.specs.declared.op.Op.TheVariants.{Push, Read, Write, Print, Halt}
+
+-- the most words on an operand stack
+abbrev pub stack_limit : ℕ
+stack_limit = 64
+
+-- the depth of the stack after an instruction
+abbrev pub depth_after : Op → ℕ → ℕ
+depth_after op depth = depth - popped (kind op) + pushed (kind op)
+
+-- the instruction at a position may be followed by the one at the next
+abbrev pub Leads : Op → ℕ → ℕ → Type 0
+Leads Halt at next = ⊥
+Leads op at next = next ≡ at + 1
+
+-- what an access names is declared, and of the access's shape
+abbrev pub Names : Listing → Op → Type 0
+Names p (Read decl) = (decl < length p.decls) × ((decl_at p decl).shape ≡ Single)
+Names p (Write decl) = (decl < length p.decls) × ((decl_at p decl).shape ≡ Single)
+Names p op = Unit {0}
+
+-- the pairs of position and depth that a thread reaches: the least set that holds the start and, with each pair
+-- that has its operands and room for its results, the pairs after it inside the code
+pub data Reaches (p : Listing) (thread : ℕ) : ℕ → ℕ → Type 0 where
+  Begin : Reaches p thread 0 0
+  Follow : (at depth next after : ℕ) → Reaches p thread at depth → at < length (code_of p thread) → popped (kind (op_at p thread at)) ≤ depth → after ≡ depth_after (op_at p thread at) depth → after ≤ stack_limit → Leads (op_at p thread at) at next → next < length (code_of p thread) → Reaches p thread next after
+
+-- an instruction that is met at a depth has its operands, room for its results and its names, and every
+-- instruction that may follow stands inside the code
+pub record IsFine (p : Listing) (thread at depth : ℕ) : Type 0 where
+  pub enough : popped (kind (op_at p thread at)) ≤ depth
+  pub room : depth_after (op_at p thread at) depth ≤ stack_limit
+  pub inside : (next : ℕ) → Leads (op_at p thread at) at next → next < length (code_of p thread)
+  pub names : Names p (op_at p thread at)
+
+-- a program within the limits whose threads have code, and each reachable pair of which is fine
+pub record IsValid (p : Listing) : Type 0 where
+  pub limits : IsWithinLimits p
+  pub code : (thread : ℕ) → thread < length p.threads → 0 < length (code_of p thread)
+  pub fine : (thread at depth : ℕ) → thread < length p.threads → Reaches p thread at depth → IsFine p thread at depth
