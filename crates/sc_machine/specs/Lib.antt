@@ -1,6 +1,8 @@
-pub mod ThreadStep
+pub mod Machine
+pub mod Made
+pub mod Schedule
 pub mod ThreadRun
 pub mod ThreadRunInside
-pub mod Machine
-pub mod Schedule
+pub mod ThreadStep
 pub mod Transcript
+pub mod Went

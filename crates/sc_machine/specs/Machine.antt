@@ -4,7 +4,7 @@ use Rattle.std.specs.Prelude.{ℕ, ◌==◌, ◌&&◌, Bool, true, false, if◌t
 use Rattle.stride_isa.specs.Listing.{Listing, start_of}
 use Rattle.sc_machine.specs.declared.stop.Stop.{Stop}
 use Rattle.sc_machine.specs.declared.stop.Stop.TheVariants.{Read, Write, Ended}
-use Rattle.sc_machine.specs.ThreadStep.{Thread, start_thread, Row, Goes, Ends, Stands, now, moved, answered}
+use Rattle.sc_machine.specs.ThreadStep.{Thread, start_thread, Row, Goes, Ends, Stands, printed_by, now, moved, answered}
 
 -- a printed line, with the number of the thread that printed it: the digits of a word and a line feed
 pub record Printed : Type 0 where
@@ -78,12 +78,6 @@ answered_at p fuel t stop m = record {
 abbrev pub printed_line : ℕ → List ℕ → List Printed
 printed_line t [] = []
 printed_line t (byte ∷ bytes) = record { thread = t; line = byte ∷ bytes } ∷ []
-
--- what is printed where this comes next
-abbrev pub printed_by : Row → List ℕ
-printed_by (Goes pc stack locals printed) = printed
-printed_by (Ends end) = []
-printed_by (Stands stop) = []
 
 -- the machine after a local instruction of the thread, which comes to this
 abbrev pub moved_by : ℕ → ℕ → Row → Machine → Machine

@@ -4,8 +4,8 @@ use Rattle.std.specs.List.{range_with_len}
 use Rattle.std.specs.Option.{option_map}
 use Rattle.stride_isa.specs.Listing.{Listing, cell_count}
 use Rattle.sc_machine.specs.declared.end.End.{End}
-use Rattle.sc_machine.specs.ThreadStep.{Thread, now, local_step, settled, end_of}
-use Rattle.sc_machine.specs.Machine.{Machine, Printed, start_machine, thread_at, can, printed_line, printed_by, sc_step, sc_run}
+use Rattle.sc_machine.specs.ThreadStep.{Thread, printed_by, now, local_step, settled, end_of}
+use Rattle.sc_machine.specs.Machine.{Machine, Printed, start_machine, thread_at, can, printed_line, sc_step, sc_run}
 
 -- the lines that up to n local instructions of the thread print
 unfoldable pub printed_in : Listing → ℕ → ℕ → ℕ → Thread → List Printed

@@ -33,10 +33,20 @@ pub data Row : Type 0 where
   Ends : End → Row
   Stands : Stop → Row
 
+-- the bytes that it prints
+abbrev pub printed_by : Row → List ℕ
+printed_by (Goes pc stack locals printed) = printed
+printed_by (Ends end) = []
+printed_by (Stands stop) = []
+
 -- a function of the topmost word and of the words below it; a missing word reads as 0
 abbrev pub on_top : {X : Type 0} → List ℕ → (ℕ → List ℕ → X) → X
 on_top [] f = f 0 []
 on_top (word ∷ below) f = f word below
+
+-- the end that a halt gives, by the monitors held
+abbrev pub halt_end : List Bool → ℕ → End
+halt_end held pc = if list_any (λ flag. flag) held then Trapped HeldAtHalt pc else Halted
 
 -- what an instruction comes to where it is met at this position, with this stack, these locals and these monitors held
 abbrev pub row : Listing → Op → ℕ → List ℕ → List ℕ → List Bool → Row
@@ -44,7 +54,7 @@ row p (ops.Push word) pc stack locals held = Goes (pc + 1) (word ∷ stack) loca
 row p (ops.Read decl) pc stack locals held = Stands (Read (first_cell p.decls decl))
 row p (ops.Write decl) pc stack locals held = on_top stack (λ word below. Stands (Write (first_cell p.decls decl) word))
 row p ops.Print pc stack locals held = on_top stack (λ word below. Goes (pc + 1) below locals (decimal word ++ 10 ∷ []))
-row p ops.Halt pc stack locals held = Ends (if list_any (λ flag. flag) held then Trapped HeldAtHalt pc else Halted)
+row p ops.Halt pc stack locals held = Ends (halt_end held pc)
 
 -- a thread that has ended stands at its end, another at what comes of its next instruction
 abbrev pub now_unless : Option End → Row → Row

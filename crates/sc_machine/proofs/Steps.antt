@@ -1,0 +1,2 @@
+-- Lemmas on the steps of one thread.
+use Rattle.std.proofs.Common.{◌≡◌}
