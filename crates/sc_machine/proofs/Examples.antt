@@ -17,7 +17,7 @@ abbrev small : Listing
 small = record {
   decls = record { name = codes "x"; shape = Single; start = 0 } ∷ [];
   monitors = [];
-  threads = (Push 3 ∷ Write 0 ∷ Halt ∷ []) ∷ (Read 0 ∷ Print ∷ Halt ∷ []) ∷ []
+  threads = (Push 3 ∷ Write 0 ∷ Halt ∷ []) ∷ (Read 0 ∷ Print ∷ Halt ∷ []) ∷ [];
 }
 
 abbrev printed_by_run : ℕ → List ℕ → Option (List ℕ)

@@ -1,6 +1,6 @@
 -- Lemmas on what always holds of a `ThreadRun`.
 use borrow.Author.Tests.{ltb-true}
-use Rattle.std.proofs.Common.{◌++◌, cond, refl, append-nil, ◌≡◌, ℕ, ◌+◌, ◌<◌, ◌≤◌, List, [], Bool, true, false, Option, Some, None, nat_lt, length, sym, ◌∙◌, ap, subst, arith}
+use Rattle.std.proofs.Common.{◌++◌, cond, refl, append-nil, ◌≡◌, ℕ, ◌+◌, ◌<◌, ◌≤◌, List, [], Bool, true, false, Option, Some, None, nat_lt, unwrap_or, length, sym, ◌∙◌, ap, subst, arith}
 use Rattle.stride_base.specs.Listed.{Listed}
 use Rattle.stride_isa.specs.Instructions.{kind, popped}
 use Rattle.stride_isa.specs.Listing.{Listing, code_of, op_at}
@@ -10,12 +10,13 @@ use Rattle.sc_machine.specs.declared.end.End.{End}
 use Rattle.sc_machine.specs.declared.end.End.TheVariants.{OutOfSteps}
 use Rattle.sc_machine.specs.declared.instruction.Next.TheVariants as nexts
 use Rattle.sc_machine.specs.declared.stop.Stop.{Stop}
-use Rattle.sc_machine.specs.ThreadStep.{Row, Goes, Ends, Stands, now_unless, row, out_of_steps}
+use Rattle.sc_machine.specs.declared.stop.Stop.TheVariants.{Read, Write, Ended}
+use Rattle.sc_machine.specs.ThreadStep.{Row, Goes, Ends, Stands, now_unless, row, stop_in, done_stack, out_of_steps}
 use Rattle.sc_machine.specs.Made.{Made, next_of, stack_after}
-use Rattle.sc_machine.specs.ThreadRun.{Run}
+use Rattle.sc_machine.specs.ThreadRun.{Run, stop_at, IsShared, TakesWord}
 use Rattle.sc_machine.specs.Went.{Stood}
 use Rattle.sc_machine.specs.ThreadRunInside.{IsRun}
-use Rattle.sc_machine.proofs.Rows.{row_leads}
+use Rattle.sc_machine.proofs.Rows.{row_leads, shared_leads}
 
 pub is_run_at_start : (p : Listing) (thread fuel : ℕ) (stack : List ℕ) → stack ≡ [] → thread < length p.threads → 0 < length (code_of p thread) → 1 ≤ fuel → fuel ≤ 1000000 → IsRun p thread fuel 0 (length stack) 0 None
 is_run_at_start p thread fuel stack empty there inside some limit = record {
@@ -87,3 +88,27 @@ stood p thread fuel pc made stack stack' locals locals' held ended op old out ou
       run = ap (λ s. with_parts s locals') u.stack_same ∙ ap (λ l. with_parts stack l) u.locals_same;
       output = u.out_same;
     })
+
+-- a stop that takes a word, or none, is a shared instruction
+shared_from_takes : (stop : Stop) (word : Option ℕ) → TakesWord stop word → IsShared stop
+shared_from_takes (Read cell) (Some word) takes = tt
+shared_from_takes (Read cell) None takes = tt
+shared_from_takes (Write cell value) (Some word) takes = tt
+shared_from_takes (Write cell value) None takes = tt
+shared_from_takes (Ended end) word takes = takes
+
+-- a thread at a shared instruction has not ended
+goes_on_at_shared : (ended : Option End) (r : Row) → IsShared (stop_in (now_unless ended r)) → (ended ≡ None) × IsShared (stop_in r)
+goes_on_at_shared None r shared = (refl, shared)
+goes_on_at_shared (Some end) r shared = absurd shared
+
+-- what always holds stays after a shared instruction is answered
+pub is_run_after_answer : (p : Listing) (thread fuel pc made : ℕ) (ended : Option End) (op : Op) (stack stack' locals : List ℕ) (held : List Bool) (old : Run) (word : Option ℕ) (later : Option End) → record { program = p; thread = thread; fuel = fuel; pc = pc; stack = stack; locals = locals; held = held; made = made; ended = ended } ≡ old → IsRun p thread fuel pc (length stack) made ended → TakesWord (stop_at old) word → op ≡ op_at p thread pc → IsFine p thread pc (length stack) → stack' ≡ done_stack op stack (unwrap_or word 0) → later ≡ out_of_steps fuel (made + 1) → IsRun p thread fuel (pc + 1) (length stack') (made + 1) later
+is_run_after_answer p thread fuel pc made ended op stack stack' locals held old word later view run takes is fine done end =
+    let run_before : Run = record { program = p; thread = thread; fuel = fuel; pc = pc; stack = stack; locals = locals; held = held; made = made; ended = ended } in
+    let takes' : TakesWord (stop_at run_before) word = subst (λ (r : Run). TakesWord (stop_at r) word) (sym view) takes in
+    let shared = goes_on_at_shared ended (row p (op_at p thread pc) pc stack locals held) (shared_from_takes (stop_at run_before) word takes') in
+    let shared_here : IsShared (stop_in (row p op pc stack locals held)) = subst (λ (x : Op). IsShared (stop_in (row p x pc stack locals held))) (sym is) shared.1 in
+    let enough : popped (kind op) ≤ length stack = subst (λ (x : Op). popped (kind x) ≤ length stack) (sym is) fine.enough in
+    let leads = shared_leads p op pc stack locals held (unwrap_or word 0) enough shared_here in
+    is_run_after p thread fuel pc (length stack) made ended op (pc + 1) (length stack') later run shared.0 is fine leads.0 (ap length done ∙ leads.1) end

@@ -71,7 +71,7 @@ answered_at p fuel t stop m = record {
   threads = slice_set m.threads t (answered p fuel t (word_read stop m.cells) (thread_at m t));
   cells = cells_after stop m.cells;
   holders = holders_after t stop m.holders;
-  transcript = m.transcript
+  transcript = m.transcript;
 }
 
 -- the line of these printed bytes, if there are any
@@ -83,7 +83,7 @@ printed_line t (byte ∷ bytes) = record { thread = t; line = byte ∷ bytes } �
 abbrev pub moved_by : ℕ → ℕ → Row → Machine → Machine
 moved_by fuel t next m = record m {
   threads = slice_set m.threads t (moved fuel next (thread_at m t));
-  transcript = m.transcript ++ printed_line t (printed_by next)
+  transcript = m.transcript ++ printed_line t (printed_by next);
 }
 
 -- the machine after the thread makes what comes next

@@ -20,7 +20,7 @@ settled_lines p fuel t s = printed_in p fuel t (fuel - s.made) s
 unfoldable pub settle : Listing → ℕ → ℕ → Machine → Machine
 settle p fuel t m = record m {
   threads = slice_set m.threads t (settled p fuel t (thread_at m t));
-  transcript = m.transcript ++ settled_lines p fuel t (thread_at m t)
+  transcript = m.transcript ++ settled_lines p fuel t (thread_at m t);
 }
 
 -- the machine after a turn: the shared instruction of the thread, and its local ones up to the next shared one or its end

@@ -4,7 +4,7 @@ use Rattle.stride_isa.specs.Listing.{Listing, code_of, cell_count}
 use Rattle.sc_machine.specs.declared.end.End.{End}
 use Rattle.sc_machine.specs.declared.stop.Stop.{Stop}
 use Rattle.sc_machine.specs.declared.stop.Stop.TheVariants.{Read, Write, Ended}
-use Rattle.sc_machine.specs.ThreadStep.{Thread, stop_of}
+use Rattle.sc_machine.specs.ThreadStep.{Thread, stop_of, answered}
 
 -- a run of one thread of a program, with its fuel
 pub record Run : Type 0 where
@@ -31,6 +31,11 @@ pub record SameThread (old new : Run) : Type 0 where
   pub program : new.program ≡ old.program
   pub thread : new.thread ≡ old.thread
   pub fuel : new.fuel ≡ old.fuel
+
+-- whatever was printed, the new state is the old one after its shared instruction, given the word
+abbrev pub IsAnswered : Run → Run → ℕ → Type 0
+IsAnswered old new word =
+    (out : List ℕ) → state new out ≡ answered old.program old.fuel old.thread word (state old out)
 
 -- the stop is a shared instruction, and no end
 abbrev pub IsShared : Stop → Type 0

@@ -116,7 +116,7 @@ answered p fuel t word s = record s {
   stack = done_stack (op_at p t s.pc) s.stack word;
   held = done_held (op_at p t s.pc) s.held;
   made = s.made + 1;
-  ended = out_of_steps fuel (s.made + 1)
+  ended = out_of_steps fuel (s.made + 1);
 }
 
 -- the end of a thread; one that has not ended is stopped at its position

@@ -6,14 +6,13 @@ ghost use Rattle.stride_isa.specs.Validity.{depth_after, Names};
 ghost use Rattle.sc_machine.specs.ThreadStep.{row, halt_end, done_stack, done_held};
 ghost use Rattle.sc_machine.specs.Made.{Made, NextNamesCell};
 
-use stride_base::List;
-use stride_isa::{Checked, Op, Stack, instructions};
-
 use crate::end::End;
 use crate::limits::{LOCAL_COUNT, MONITOR_LIMIT, STACK_LIMIT};
 use crate::printing::push_line;
 use crate::stop::Stop;
 use crate::trap::Trap;
+use stride_base::List;
+use stride_isa::{Checked, Op, Stack, instructions};
 
 /// What an instruction came to.
 #[derive(Clone, Copy)]
@@ -121,12 +120,7 @@ pub fn make(
 }
 
 /// Completes a shared instruction, which is given the word that it reads, or 0.
-pub fn finish(
-    op: Op,
-    word: u64,
-    stack: &mut Stack<STACK_LIMIT>,
-    held: &mut [bool; MONITOR_LIMIT],
-)
+pub fn finish(op: Op, word: u64, stack: &mut Stack<STACK_LIMIT>, held: &mut [bool; MONITOR_LIMIT])
     requires enough { popped (kind op) ≤ length stack.old }
     requires room { depth_after op (length stack.old) ≤ 64 }
     ensures stack { stack.new ≡ done_stack op stack.old word }
