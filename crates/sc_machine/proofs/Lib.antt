@@ -1,0 +1,5 @@
+pub mod Digits
+mod Examples
+pub mod Inside
+pub mod Rows
+pub mod Steps

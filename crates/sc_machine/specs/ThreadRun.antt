@@ -1,0 +1,62 @@
+-- What contracts see of a `ThreadRun`: a thread's state without its output, which lies with the caller.
+use Rattle.std.specs.Prelude.{◌≡◌, ℕ, ◌<◌, List, [], Bool, Option, Some, None, length}
+use Rattle.stride_isa.specs.Listing.{Listing, code_of, cell_count}
+use Rattle.sc_machine.specs.declared.end.End.{End}
+use Rattle.sc_machine.specs.declared.stop.Stop.{Stop}
+use Rattle.sc_machine.specs.declared.stop.Stop.TheVariants.{Read, Write, Ended}
+use Rattle.sc_machine.specs.ThreadStep.{Thread, stop_of, answered}
+
+-- a run of one thread of a program, with its fuel
+pub record Run : Type 0 where
+  pub program : Listing
+  pub thread : ℕ
+  pub fuel : ℕ
+  pub pc : ℕ
+  pub stack : List ℕ
+  pub locals : List ℕ
+  pub held : List Bool
+  pub made : ℕ
+  pub ended : Option End
+
+-- the thread's state where it has printed this
+abbrev pub state : Run → List ℕ → Thread
+state r out = record { pc = r.pc; stack = r.stack; locals = r.locals; held = r.held; out = out; made = r.made; ended = r.ended }
+
+-- the shared instruction, or the end, at which the run stands
+abbrev pub stop_at : Run → Stop
+stop_at r = stop_of r.program r.thread (state r [])
+
+-- it is a run of the same thread of the same program, with the same fuel
+pub record SameThread (old new : Run) : Type 0 where
+  pub program : new.program ≡ old.program
+  pub thread : new.thread ≡ old.thread
+  pub fuel : new.fuel ≡ old.fuel
+
+-- whatever was printed, the new state is the old one after its shared instruction, given the word
+abbrev pub IsAnswered : Run → Run → ℕ → Type 0
+IsAnswered old new word =
+    (out : List ℕ) → state new out ≡ answered old.program old.fuel old.thread word (state old out)
+
+-- the stop is a shared instruction, and no end
+abbrev pub IsShared : Stop → Type 0
+IsShared (Read cell) = Unit {0}
+IsShared (Write cell value) = Unit {0}
+IsShared (Ended end) = ⊥
+
+-- the stop is a shared instruction, and a word is given exactly where it reads one
+abbrev pub TakesWord : Stop → Option ℕ → Type 0
+TakesWord (Read cell) (Some word) = Unit {0}
+TakesWord (Read cell) None = ⊥
+TakesWord (Write cell value) (Some word) = ⊥
+TakesWord (Write cell value) None = Unit {0}
+TakesWord (Ended end) word = ⊥
+
+-- the cell is one of the program's, which are 256 at most
+abbrev pub IsCell : Listing → ℕ → Type 0
+IsCell p cell = (cell < cell_count p.decls) × (cell < 256)
+
+-- the cell that a stop names is one of the program's
+abbrev pub NamesCell : Listing → Stop → Type 0
+NamesCell p (Read cell) = IsCell p cell
+NamesCell p (Write cell value) = IsCell p cell
+NamesCell p (Ended end) = Unit {0}

@@ -1,0 +1,14 @@
+//! Where a thread stands.
+
+use crate::end::End;
+
+/// Where a thread stands after its local instructions: at a shared one, or at its end.
+#[derive(Clone, Copy, Debug, PartialEq, Eq)]
+pub enum Stop {
+    /// At a read of this cell.
+    Read { cell: u32 },
+    /// At a write of this value into this cell.
+    Write { cell: u32, value: u64 },
+    /// At its end.
+    Ended { end: End },
+}
