@@ -1,5 +1,8 @@
 pub mod Digits
 mod Examples
 pub mod Inside
+pub mod PrintedLines
+pub mod Refused
 pub mod Rows
 pub mod Steps
+pub mod Turns

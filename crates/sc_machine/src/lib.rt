@@ -3,6 +3,7 @@
 
 mod end;
 mod instruction;
+pub mod laws;
 mod limits;
 mod printing;
 mod stop;
