@@ -8,7 +8,7 @@ use Rattle.stride_isa.specs.Listing.{Listing}
 use Rattle.sc_machine.specs.declared.end.End.{End}
 use Rattle.sc_machine.specs.declared.stop.Stop.{Stop}
 use Rattle.sc_machine.specs.ThreadStep.{Thread, start_thread, Row, Goes, Ends, Stands, printed_by, now, moved, local_step, local_steps, settled, answered}
-use Rattle.sc_machine.specs.Machine.{Machine, Printed, start_machine, thread_at, may_make, may_pass, can, answered_at, printed_line, moved_by, stepped_by, sc_step, sc_run}
+use Rattle.sc_machine.specs.Machine.{Machine, Printed, start_machine, thread_at, may_make, may_pass, can, word_read, cells_after, holders_after, answered_at, printed_line, moved_by, stepped_by, sc_step, sc_run}
 use Rattle.sc_machine.specs.Schedule.{printed_in, settled_lines, settle, turn, turns, started, thread_numbers, ready, locals_of, expand_starts, expand, whole, run_of}
 
 -- a list written twice at one place
@@ -204,3 +204,24 @@ module _ (p : Listing) (fuel : ℕ) where
       go : (b : Bool) → (if b then turns p fuel (xs ++ ys) (turn p fuel x m) else None) ≡ Some m' → (turns p fuel (xs ++ ys) (turn p fuel x m) ≡ Some m' → (mid : Machine) × (turns p fuel xs (turn p fuel x m) ≡ Some mid)) → (mid : Machine) × ((if b then turns p fuel xs (turn p fuel x m) else None) ≡ Some mid)
       go true e ih = ih e
       go false e ih = absurd (cc)
+
+-- a turn of a thread that stands at a shared instruction, by what the stop says of the word read, the cells and the holders
+pub turn-standing : (p : Listing) (fuel t : ℕ) (m : Machine) (stop : Stop) → t < length m.threads → now p t (thread_at m t) ≡ Stands stop → turn p fuel t m ≡ record { threads = set m.threads t (settled p fuel t (answered p fuel t (word_read stop m.cells) (thread_at m t))); cells = cells_after stop m.cells; holders = holders_after t stop m.holders; transcript = m.transcript ++ settled_lines p fuel t (answered p fuel t (word_read stop m.cells) (thread_at m t)) }
+unfolding turn settle sc_step
+turn-standing p fuel t m stop lt e =
+    let answer : Thread = answered p fuel t (word_read stop m.cells) (thread_at m t) in
+    let here : thread_at (answered_at p fuel t stop m) t ≡ answer = get_or-set_same m.threads t answer start_thread lt in
+    let threads : set (set m.threads t answer) t (settled p fuel t (thread_at (answered_at p fuel t stop m) t)) ≡ set m.threads t (settled p fuel t answer) =
+      set-set m.threads t answer (settled p fuel t (thread_at (answered_at p fuel t stop m) t)) ∙ ap (λ s. set m.threads t (settled p fuel t s)) here in
+    ap (λ next. settle p fuel t (stepped_by p fuel t next m)) e
+    ∙ (λ i. record {
+        threads = threads i;
+        cells = cells_after stop m.cells;
+        holders = holders_after t stop m.holders;
+        transcript = m.transcript ++ settled_lines p fuel t (here i)
+      })
+
+-- a thread that stands at a shared instruction may take its turn where the stop lets it pass
+pub can-standing : (p : Listing) (t : ℕ) (m : Machine) (stop : Stop) → t < length m.threads → now p t (thread_at m t) ≡ Stands stop → can p t m ≡ may_pass stop m.holders
+can-standing p t m stop lt e =
+    ap (λ b. b && may_make (now p t (thread_at m t)) m.holders) (lt-ltb t (length m.threads) lt) ∙ ap (λ next. may_make next m.holders) e

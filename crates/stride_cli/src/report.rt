@@ -1,6 +1,6 @@
 //! The sections of reports.
-ghost use Rattle.std.specs.Prelude.{◌≡◌, ◌+◌, ◌≤◌, ◌<◌, ◌++◌, ◌∷◌, [], OnOk, IfOk, length, codes, decimal};
-ghost use Rattle.sc_machine.specs.Transcript.{tagged, tag};
+ghost use Rattle.std.specs.Prelude.{◌≡◌, ◌+◌, ◌≤◌, ◌<◌, ◌++◌, ◌∷◌, [], OnOk, IfOk, length, codes, decimal, true};
+ghost use Rattle.stride_cli.specs.Playing.{labelled};
 ghost use Rattle.stride_cli.specs.Reports.{trap_word, end_words, end_lines, ends_section};
 
 use std::alloc::Global;
@@ -68,9 +68,9 @@ pub fn put_ends(alloc: Global, report: &mut List<u8>, ends: &[End]) -> Result<()
     Ok(())
 }
 
-/// Appends bytes that a thread printed, with the thread's tag before each line.
-pub fn put_tagged(report: &mut List<u8>, label: &[u8], printed: &[u8]) -> Result<(), NoMemory>
-    ensures { OnOk result (report.new.items ≡ report.old.items ++ tagged_by label.now true printed.now) }
+/// Appends bytes that a thread printed, with the thread's label before each line.
+pub fn put_labelled(report: &mut List<u8>, label: &[u8], printed: &[u8]) -> Result<(), NoMemory>
+    ensures { OnOk result (report.new.items ≡ report.old.items ++ labelled label.now true printed.now) }
 {
     let mut begins = true;
     for byte in printed {
