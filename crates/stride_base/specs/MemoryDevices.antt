@@ -3,7 +3,7 @@ use Rattle.std.specs.Prelude.{ℕ, zero, suc, ◌+◌, ◌-◌, ◌^◌, min, Bo
 use Rattle.std.specs.List.{list_any}
 use Rattle.stride_base.specs.Devices.{raised}
 
--- the call with this number fails by the list of numbers, which are below 2 ^ 32
+-- the call with this number is listed. None from 2 ^ 32 on is
 abbrev pub is_listed : List ℕ → ℕ → Bool
 is_listed failing call = nat_lt call (2 ^ 32) && list_any (λ k. k == call) failing
 

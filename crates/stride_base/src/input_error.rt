@@ -1,6 +1,6 @@
 //! `InputError`: why an input was not read.
 use crate::failed::Failed;
-use crate::no_memory::NoMemory as OutOfMemory;
+use crate::no_memory::NoMemory;
 use std::alloc::AllocError;
 
 /// Why an input was not read.
@@ -16,31 +16,31 @@ pub enum InputError {
 
 impl From<Failed> for InputError {
     ghost use Rattle.std.specs.Prelude.{◌≡◌};
-    ghost use Rattle.stride_base.specs.declared.input_error.InputError.TheVariants.{ReadFault};
+    ghost use Rattle.stride_base.specs.declared.input_error.InputError.TheVariants.{ReadFault as read_fault};
 
-    ghost from_gives = { λ _ error. error ≡ ReadFault };
+    ghost from_gives = { λ _ error. error ≡ read_fault };
 
     fn from(_fault: Failed) -> InputError {
         InputError::ReadFault
     }
 }
 
-impl From<OutOfMemory> for InputError {
+impl From<NoMemory> for InputError {
     ghost use Rattle.std.specs.Prelude.{◌≡◌};
-    ghost use Rattle.stride_base.specs.declared.input_error.InputError.TheVariants.{NoMemory};
+    ghost use Rattle.stride_base.specs.declared.input_error.InputError.TheVariants.{NoMemory as no_memory};
 
-    ghost from_gives = { λ _ error. error ≡ NoMemory };
+    ghost from_gives = { λ _ error. error ≡ no_memory };
 
-    fn from(_refused: OutOfMemory) -> InputError {
+    fn from(_refused: NoMemory) -> InputError {
         InputError::NoMemory
     }
 }
 
 impl From<AllocError> for InputError {
     ghost use Rattle.std.specs.Prelude.{◌≡◌};
-    ghost use Rattle.stride_base.specs.declared.input_error.InputError.TheVariants.{NoMemory};
+    ghost use Rattle.stride_base.specs.declared.input_error.InputError.TheVariants.{NoMemory as no_memory};
 
-    ghost from_gives = { λ _ error. error ≡ NoMemory };
+    ghost from_gives = { λ _ error. error ≡ no_memory };
 
     fn from(_refused: AllocError) -> InputError {
         InputError::NoMemory

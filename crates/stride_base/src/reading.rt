@@ -43,6 +43,7 @@ pub fn read_all<S: Source>(
     }
 }
 
+// Apart from its caller, since a proof at a written length would write the whole list out.
 fn zeros(alloc: Global, len: usize) -> Result<Vec<u8>, AllocError>
     ensures { IfOk result (λ bytes. vec_len bytes ≡ len) }
 {
