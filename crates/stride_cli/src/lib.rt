@@ -2,5 +2,7 @@
 #![tactic(auto)]
 
 mod player;
+mod playing;
 mod report;
+mod starting;
 mod table;

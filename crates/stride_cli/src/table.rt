@@ -8,6 +8,7 @@ use stride_base::{List, NoMemory};
 use stride_isa::Checked;
 
 use crate::player::Player;
+use crate::starting::{start_players, starting_cells};
 
 /// The most cells of a program.
 pub const CELL_LIMIT: usize = 256;
@@ -53,5 +54,32 @@ impl<'p> Table<'p> {
             Stop::Ended { end: _ } => return Ok(false),
         }
         Ok(true)
+    }
+}
+
+impl<'p> Table<'p> {
+    ghost use Rattle.std.specs.Prelude.{List};
+    ghost use Rattle.sc_machine.specs.Machine.{Machine};
+    ghost use Rattle.sc_machine.specs.Schedule.{ready};
+    ghost use Rattle.stride_cli.specs.Playing.{IsTable, Shows};
+
+    /// The table after the local start of each thread.
+    pub fn start(alloc: Global, program: &'p Checked, fuel: u32) -> Result<Table<'p>, NoMemory>
+        requires some { 1 ≤ fuel }
+        requires limit { fuel ≤ 1000000 }
+        ensures table { IfOk result IsTable }
+        ensures shows { IfOk result (λ table. Shows table (ready program.now fuel)) }
+        ensures program { IfOk result (λ table. table.program.now ≡ program.now) }
+        ensures fuel { IfOk result (λ table. table.fuel ≡ fuel) }
+    {
+        let mut transcript = List::new(alloc);
+        let players = start_players(alloc, program, fuel, &mut transcript)?;
+        Ok(Table {
+            program,
+            fuel,
+            players,
+            cells: starting_cells(program),
+            transcript,
+        })
     }
 }
