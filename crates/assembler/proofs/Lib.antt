@@ -1,0 +1,4 @@
+pub mod Glued
+pub mod LineLemmas
+pub mod NumberLemmas
+pub mod WordLemmas
