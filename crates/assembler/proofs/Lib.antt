@@ -1,4 +1,5 @@
 pub mod Glued
 pub mod LineLemmas
 pub mod NumberLemmas
+pub mod OrderLemmas
 pub mod WordLemmas

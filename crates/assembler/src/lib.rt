@@ -2,8 +2,17 @@
 //!
 #![tactic(auto)]
 
+mod asm_error;
 mod lines;
 mod numbers;
+mod order_split;
+mod orders;
+mod refusal;
+mod splitting;
 mod words;
 
+pub use asm_error::{AsmError, AsmKind};
 pub use lines::ends_with_line_feed;
+pub use order_split::OrderSplit;
+pub use orders::read_order;
+pub use splitting::split_order;
