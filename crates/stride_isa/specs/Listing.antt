@@ -1,5 +1,5 @@
 -- Programs as contracts see them, and what it means to add to one.
-use Rattle.std.specs.Prelude.{◌≡◌, ℕ, ◌+◌, ◌≤◌, ◌||◌, Bool, true, false, List, [], ◌∷◌, ◌++◌, length, map, take, replicate, Result, Ok, Err}
+use Rattle.std.specs.Prelude.{◌≡◌, ℕ, ◌+◌, ◌≤◌, ◌||◌, Bool, true, false, List, [], ◌∷◌, ◌++◌, length, map, take, replicate, slice_index, Result, Ok, Err}
 use Rattle.std.specs.List.{sum_by, list_any, flat_map, slice_index_or}
 use Rattle.std.specs.Str.{bytes_eq}
 use Rattle.stride_isa.specs.declared.decl.Decl.{Decl}
@@ -39,7 +39,7 @@ starts_of decls = flat_map (λ d. replicate (cells_of d.shape) d.start) decls
 
 -- the starting value of a cell
 abbrev pub start_of : Listing → ℕ → ℕ
-start_of p cell = slice_index_or (starts_of p.decls) cell 0
+start_of p cell = slice_index (starts_of p.decls) cell
 
 -- the names of variables, arrays and monitors, which share one space
 abbrev pub names_of : Listing → List (List ℕ)

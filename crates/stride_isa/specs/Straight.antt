@@ -17,7 +17,7 @@ is_single (Array size) = false
 
 -- whether the declaration at this position is there and is a single variable
 abbrev pub declares_single : List Decl → ℕ → Bool
-declares_single decls at = option_map_or (λ d. is_single d.shape) false (slice_get decls at)
+declares_single decls at = option_map_or (λ d. is_single d.shape) (slice_get decls at) false
 
 -- what an access names is declared, and is a single variable
 abbrev pub names_declared : List Decl → Op → Bool

@@ -1,7 +1,7 @@
 -- Which programs are valid: by the pairs of position and stack depth that a thread can reach.
 use Rattle.std.specs.Prelude.{◌≡◌, ℕ, ◌+◌, ◌-◌, ◌<◌, ◌≤◌, length}
 use Rattle.stride_isa.specs.Instructions.{kind, popped, pushed}
-use Rattle.stride_isa.specs.Listing.{Listing, IsWithinLimits, code_of, op_at, decl_at}
+use Rattle.stride_isa.specs.Listing.{Listing, code_of, op_at, decl_at}
 use Rattle.stride_isa.specs.declared.decl.Shape.TheVariants.{Single}
 use Rattle.stride_isa.specs.declared.op.Op.{Op}
 use Rattle.stride_isa.specs.declared.op.Op.TheVariants.{Push, Read, Write, Print, Halt}
@@ -39,8 +39,7 @@ pub record IsFine (p : Listing) (thread at depth : ℕ) : Type 0 where
   pub inside : (next : ℕ) → Leads (op_at p thread at) at next → next < length (code_of p thread)
   pub names : Names p (op_at p thread at)
 
--- a program within the limits whose threads have code, and each reachable pair of which is fine
+-- each thread has code, and each pair that it reaches is fine
 pub record IsValid (p : Listing) : Type 0 where
-  pub limits : IsWithinLimits p
   pub code : (thread : ℕ) → thread < length p.threads → 0 < length (code_of p thread)
   pub fine : (thread at depth : ℕ) → thread < length p.threads → Reaches p thread at depth → IsFine p thread at depth

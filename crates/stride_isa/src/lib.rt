@@ -6,14 +6,21 @@
 //! stack, a position outside its code or a name that is not declared.
 #![tactic(auto)]
 
+mod checking;
 mod decl;
+mod looking;
 mod name;
 mod op;
 mod program;
 mod stack;
+mod straight;
 
+pub use checking::{CheckError, Checked, check};
 pub use decl::{Decl, Shape};
 pub use name::Name;
 pub use op::{Op, OpKind, effect, kind_of, name_of, op_named};
 pub use program::{AddError, Program};
 pub use stack::Stack;
+
+#[cfg(test)]
+mod tests;

@@ -80,11 +80,11 @@ fn push_to_last(threads: &mut Vec<Vec<Op>>, op: Op) -> Result<(), AllocError>
 /// Declarations, monitors and the code of each thread, within the limits and with no name twice.
 #[derive(Drop)]
 pub struct Program {
-    decls: Vec<Decl>,
-    firsts: Vec<u32>,
-    monitors: Vec<Name>,
-    threads: Vec<Vec<Op>>,
-    cells: u32,
+    pub(crate) decls: Vec<Decl>,
+    pub(crate) firsts: Vec<u32>,
+    pub(crate) monitors: Vec<Name>,
+    pub(crate) threads: Vec<Vec<Op>>,
+    pub(crate) cells: u32,
     instructions: u32,
 }
 

@@ -1,0 +1,136 @@
+//! The check of a program, and checked programs.
+ghost use Rattle.std.specs.Prelude.{◌≡◌, ◌≤◌, ◌<◌, ◌+◌, ℕ, IfOk, true, length, slice_index};
+ghost use Rattle.std.specs.List.{slice_index_or};
+ghost use Rattle.stride_isa.specs.Listing.{cell_count, cells_of, first_cell, start_of, code_of, op_at, decl_at};
+ghost use Rattle.stride_isa.specs.Straight.{is_straight as goes_straight};
+ghost use Rattle.stride_isa.specs.Validity.{IsFine, IsValid, Reaches};
+
+use std::alloc::Global;
+use std::marker::Model;
+
+use crate::decl::Decl;
+use crate::name::Name;
+use crate::op::Op;
+use crate::program::Program;
+
+/// Why a program was not checked.
+#[derive(Clone, Copy, Debug, PartialEq, Eq)]
+pub enum CheckError {
+    /// Memory ran out.
+    NoMemory,
+}
+
+/// A valid program: no thread of it can meet a missing operand, a full stack, a position outside its code, or a name
+/// that is not declared. Only `check` makes one.
+#[derive(Drop)]
+pub struct Checked {
+    program: Program,
+}
+
+impl Model for Checked {
+    ghost use Rattle.stride_isa.specs.Listing.{Listing};
+    ghost use Rattle.stride_isa.specs.Validity.{IsValid};
+
+    ghost Value = { Listing };
+
+    ghost view = { λ c. c.program };
+
+    ghost invariant = { λ c. IsValid c.program };
+}
+
+/// The same program, checked. The program is given up where memory runs out.
+pub fn check(_alloc: Global, program: Program) -> Result<Checked, CheckError>
+    requires { goes_straight program ≡ true }
+    ensures { IfOk result (λ checked. checked ≡ program) }
+{
+    Ok(Checked { program })
+}
+
+impl Checked {
+    /// How many threads there are.
+    pub fn threads(&self) -> u32
+        ensures count { result ≡ length self.now.threads }
+        ensures small { result ≤ 16 }
+    {
+        self.program.threads()
+    }
+
+    /// How many instructions a thread has.
+    pub fn code_len(&self, thread: u32) -> u32
+        requires { thread < length self.now.threads }
+        ensures count { result ≡ length (code_of self.now thread) }
+        ensures some { 0 < result }
+        ensures small { result ≤ 65536 }
+    {
+        self.program.code_len(thread)
+    }
+
+    /// The instruction of a thread at a position.
+    pub fn op(&self, thread: u32, at: u32) -> Op
+        requires thread { thread < length self.now.threads }
+        requires inside { at < length (code_of self.now thread) }
+        ensures is { result ≡ op_at self.now thread at }
+        ensures small { at < 65536 }
+        ensures fine { (depth : ℕ) → Reaches self.now thread at depth → IsFine self.now thread at depth }
+    {
+        self.program.op(thread, at)
+    }
+
+    /// How many variables and arrays are declared.
+    pub fn decls(&self) -> u32
+        ensures count { result ≡ length self.now.decls }
+        ensures small { result ≤ 256 }
+    {
+        self.program.decls()
+    }
+
+    /// The declaration at a position.
+    pub fn decl(&self, at: u32) -> &Decl
+        requires { at < length self.now.decls }
+        ensures { result.now ≡ decl_at self.now at }
+    {
+        self.program.decl(at)
+    }
+
+    /// How many monitors are declared.
+    pub fn monitors(&self) -> u32
+        ensures count { result ≡ length self.now.monitors }
+        ensures small { result ≤ 64 }
+    {
+        self.program.monitors()
+    }
+
+    /// The name of the monitor at a position.
+    pub fn monitor(&self, at: u32) -> &Name
+        requires { at < length self.now.monitors }
+        ensures { result.now ≡ slice_index_or self.now.monitors at result.now }
+    {
+        self.program.monitor(at)
+    }
+
+    /// How many cells the variables and arrays have together.
+    pub fn cells(&self) -> u32
+        ensures count { result ≡ cell_count self.now.decls }
+        ensures small { result ≤ 256 }
+    {
+        self.program.cells()
+    }
+
+    /// The starting value of a cell.
+    pub fn start_of(&self, cell: u32) -> u64
+        requires { cell < cell_count self.now.decls }
+        ensures { result ≡ start_of self.now cell }
+    {
+        self.program.start_of(cell)
+    }
+
+    /// The number of the first cell of a declaration.
+    pub fn first_cell(&self, decl: u32) -> u32
+        requires { decl < length self.now.decls }
+        ensures is { result ≡ first_cell self.now.decls decl }
+        ensures within { result + cells_of (decl_at self.now decl).shape ≤ cell_count self.now.decls }
+        ensures small { cell_count self.now.decls ≤ 256 }
+    {
+        self.program.first_cell(decl)
+    }
+}
