@@ -1,5 +1,7 @@
 -- What the results of reading say, seen beside what a text spells.
 use Rattle.std.specs.Prelude.{◌≡◌, Option, Some, None, Result, Ok, Err}
+use Rattle.stride_isa.specs.declared.program.AddError.{AddError}
+use Rattle.stride_isa.specs.declared.program.AddError.TheVariants as additions
 use Rattle.assembler.specs.declared.asm_error.AsmError.{AsmError}
 use Rattle.assembler.specs.declared.asm_error.AsmError.TheVariants as errors
 use Rattle.assembler.specs.declared.asm_error.AsmKind.TheVariants.{BadLine}
@@ -22,3 +24,9 @@ IsAnswer view (Err errors.NoMemory) spelled = Unit {0}
 abbrev pub told : Refusal → AsmError
 told refusals.Bad = errors.Bad BadLine 0
 told refusals.NoMemory = errors.NoMemory
+
+-- a refusal of a program to take something more, as a refusal of the line
+abbrev pub refusal_by : AddError → Refusal
+refusal_by additions.Twice = refusals.Bad
+refusal_by additions.TooMany = refusals.Bad
+refusal_by additions.NoMemory = refusals.NoMemory

@@ -3,8 +3,13 @@
 #![tactic(auto)]
 
 mod asm_error;
+mod assembly;
+mod keyword;
+mod line;
 mod lines;
+mod names;
 mod numbers;
+mod operands;
 mod order_split;
 mod orders;
 mod refusal;

@@ -1,0 +1,13 @@
+-- The whole input of a program and an order.
+use Rattle.std.specs.Prelude.{ℕ, List, if◌then◌else◌, Option, Some, None, option_and_then}
+use Rattle.std.specs.Option.{option_map}
+use Rattle.stride_isa.specs.Listing.{Listing}
+use Rattle.assembler.specs.Lines.{ends_lines}
+use Rattle.assembler.specs.Orders.{order_spelled}
+use Rattle.assembler.specs.Programs.{spelled}
+use Rattle.assembler.specs.Splits.{program_part, order_part}
+
+-- the program before the line `order` and the order behind it, where each line of the input ends
+abbrev pub input_of : List ℕ → Option (Listing × List ℕ)
+input_of bytes =
+    if ends_lines bytes then option_and_then (λ program. option_map (λ order. (program, order)) (order_spelled (order_part bytes))) (spelled (program_part bytes)) else None
