@@ -1,8 +1,10 @@
 -- The steps of the loop that finds the end of a word.
-use Rattle.std.proofs.Common.{◌≡◌, ◌≢◌, ℕ, ◌+◌, ◌<◌, ◌≤◌, List, [], ◌∷◌, length, get_or, take, drop, refl, arith}
+use Rattle.std.proofs.Common.{◌≡◌, ◌≢◌, ℕ, ◌+◌, ◌<◌, ◌≤◌, List, [], ◌∷◌, length, get_or, take, drop, eqb, cond, true, false, refl, arith}
 use Rattle.std.proofs.lemmas.Bool.{ne_eqb}
 use Rattle.std.proofs.lemmas.List.{take_more, drop_more, take_all, drop_all}
+use Rattle.assembler.specs.Lines.{onto_first}
 use Rattle.assembler.specs.Words.{words_of}
+use Rattle.assembler.specs.Forms.{following, MoreWords}
 use Rattle.assembler.proofs.Glued.{glued, glued-push, glued-end}
 
 -- what the first bytes and the words of the rest make together
@@ -21,3 +23,23 @@ pub words_from-all : (line : List ℕ) (i : ℕ) → length line ≤ i → words
 words_from-all line i end = rw (take_all i line end, drop_all i line end) (glued-end line [])
 
 pub ruleset word_steps = (words_from-more, words_from-end, words_from-all)
+
+onto_first-some : (byte : ℕ) (pieces : List (List ℕ)) → 0 < length (onto_first byte pieces)
+onto_first-some byte [] = omega arith
+onto_first-some byte (piece ∷ pieces) = omega arith
+
+-- a line has a word, which may be empty
+words_of-some : (line : List ℕ) → 0 < length (words_of line)
+words_of-some [] = omega arith
+words_of-some (byte ∷ bytes) =
+    elim (eqb byte 32) as (λ is_space. 0 < length (cond is_space ([] ∷ words_of bytes) (onto_first byte (words_of bytes)))) [
+        true ↦ omega arith
+        | false ↦ onto_first-some byte (words_of bytes)
+    ]
+
+-- a line with two words and more
+pub following_more : (first second line : List ℕ) → following (first ∷ second ∷ words_of line) ≡ MoreWords
+following_more first second line = more (words_of line) (words_of-some line) where
+  more : (words : List (List ℕ)) → 0 < length words → following (first ∷ second ∷ words) ≡ MoreWords
+  more [] some = absurd (omega arith)
+  more (third ∷ words) some = refl

@@ -1,7 +1,7 @@
 -- What the assembler's own types stand for.
-use Rattle.std.specs.Prelude.{◌≡◌, ◌<◌, List, [], ◌∷◌, length, ℕ, Bool}
+use Rattle.std.specs.Prelude.{◌≡◌, ℕ, List}
 use Rattle.stride_isa.specs.Listing.{Listing}
-use Rattle.assembler.specs.Forms.{Form, VarLine, ThreadLine, PushLine, ReadLine, WriteLine, PrintLine, HaltLine, Malformed}
+use Rattle.assembler.specs.Forms.{Form, Following, NoWord, OneWord, TwoWords, MoreWords, VarLine, ThreadLine, PushLine, ReadLine, WriteLine, PrintLine, HaltLine, Malformed}
 use Rattle.assembler.specs.Naming.{position_of}
 use Rattle.assembler.specs.Programs.{find_decl, has_thread}
 use Rattle.assembler.specs.declared.assembly.Assembly.{Assembly}
@@ -10,12 +10,12 @@ use Rattle.assembler.specs.declared.line.Line.TheVariants as line
 use Rattle.assembler.specs.declared.operands.Operands.{Operands}
 use Rattle.assembler.specs.declared.operands.Operands.TheVariants.{Nothing, One, Two, More}
 
--- the words behind the first of a line
-abbrev pub AreWords : Operands → List (List ℕ) → Type 0
-AreWords Nothing words = words ≡ []
-AreWords (One first) words = words ≡ first.now ∷ []
-AreWords (Two first second) words = words ≡ first.now ∷ second.now ∷ []
-AreWords More words = 2 < length words
+-- the words that are behind the first of a line
+abbrev pub words_seen : Operands → Following
+words_seen Nothing = NoWord
+words_seen (One first) = OneWord first.now
+words_seen (Two first second) = TwoWords first.now second.now
+words_seen More = MoreWords
 
 -- the form that a line has
 abbrev pub form : Line → Form

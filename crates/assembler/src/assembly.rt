@@ -37,7 +37,7 @@ impl<'a> Assembly<'a> {
 
     /// The program.
     pub(crate) fn into_program(self) -> Program
-        ensures { result ≡ self.program }
+        ensures { result ≡ self.entry.program }
     {
         let Assembly {
             program,
@@ -51,7 +51,7 @@ impl<'a> Assembly<'a> {
     pub(crate) fn add(&mut self, line: Line<'a>) -> Result<(), Refusal>
         requires step { IsInStep self.old }
         requires named { DeclaresName (form line) }
-        ensures added { Gives (λ _. self.new.program) result (next self.old.program (form line)) }
+        ensures added { Gives (λ _. self.new.program) result (next self.old.program (form line.entry)) }
         ensures step { OnOk result (IsInStep self.new) }
     {
         match line {
@@ -80,7 +80,8 @@ impl<'a> Assembly<'a> {
         };
         let shape = Shape::Single;
         let position = self.program.add_cells(Decl { name, shape, start })?;
-        self.names.insert(word, position)
+        self.names.insert(word, position)?;
+        Ok(())
     }
 
     fn add_thread(&mut self) -> Result<(), Refusal>

@@ -1,16 +1,14 @@
 //! `Line`: what a line of a program's text says by itself.
-ghost use Rattle.std.specs.Prelude.{◌≡◌, ◌^◌, [], ◌∷◌};
-ghost use Rattle.stride_isa.specs.Names.{is_name};
-ghost use Rattle.assembler.specs.Forms.{var_form, push_form, op_form, form_of, DeclaresName};
-ghost use Rattle.assembler.specs.Numbers.{number};
-ghost use Rattle.assembler.specs.Seen.{form};
+ghost use Rattle.std.specs.Prelude.{◌≡◌};
+ghost use Rattle.assembler.specs.Forms.{var_form, op_form, form_of, alone as alone_form, DeclaresName};
+ghost use Rattle.assembler.specs.Seen.{form, words_seen};
 ghost use Rattle.assembler.specs.Words.{words_of};
 
 use crate::keyword::{Keyword, keyword_at};
 use crate::numbers::number_up_to;
-use crate::operands::Operands;
+use crate::operands::{Operands, where_name};
 use crate::words::take_word;
-use stride_isa::{Name, OpKind};
+use stride_isa::OpKind;
 
 /// What a line says. Names are as they stand in the text.
 #[derive(Clone, Copy, Debug)]
@@ -26,47 +24,64 @@ pub(crate) enum Line<'a> {
     Malformed,
 }
 
-fn spells_name(word: &[u8]) -> bool
-    ensures { result ≡ is_name word.now }
+fn var_line(operands: Operands<'_>) -> Line<'_>
+    ensures said { form result ≡ var_form (words_seen operands.entry) }
+    ensures named { DeclaresName (form result) }
 {
-    Name::of(word).is_some()
-}
-
-fn var_line<'a>(name: &'a [u8], start: &[u8]) -> Line<'a>
-    ensures { form result ≡ var_form name.now (number (2 ^ 64) start.now) }
-{
-    match number_up_to(u64::MAX, start) {
-        Some(start) if spells_name(name) => Line::Var { name, start },
-        _ => Line::Malformed,
+    let Operands::Two(word, start) = operands else {
+        return Line::Malformed;
+    };
+    match (where_name(word), number_up_to(u64::MAX, start)) {
+        (Some(name), Some(start)) => Line::Var { name, start },
+        (Some(_), None) | (None, _) => Line::Malformed,
     }
 }
 
-fn push_line(word: &[u8]) -> Line<'_>
-    ensures { form result ≡ push_form (number (2 ^ 64) word.now) }
+fn push_line(operands: Operands<'_>) -> Line<'_>
+    ensures { form result ≡ op_form OpKind.Push (words_seen operands.entry) }
 {
-    match number_up_to(u64::MAX, word) {
+    match operands.number() {
         Some(word) => Line::Push(word),
         None => Line::Malformed,
     }
 }
 
-fn read_line(name: &[u8]) -> Line<'_>
-    ensures { form result ≡ op_form OpKind.Read (name.now ∷ []) }
+fn read_line(operands: Operands<'_>) -> Line<'_>
+    ensures { form result ≡ op_form OpKind.Read (words_seen operands.entry) }
 {
-    if spells_name(name) {
-        Line::Read(name)
-    } else {
-        Line::Malformed
+    match operands.name() {
+        Some(name) => Line::Read(name),
+        None => Line::Malformed,
     }
 }
 
-fn write_line(name: &[u8]) -> Line<'_>
-    ensures { form result ≡ op_form OpKind.Write (name.now ∷ []) }
+fn write_line(operands: Operands<'_>) -> Line<'_>
+    ensures { form result ≡ op_form OpKind.Write (words_seen operands.entry) }
 {
-    if spells_name(name) {
-        Line::Write(name)
-    } else {
-        Line::Malformed
+    match operands.name() {
+        Some(name) => Line::Write(name),
+        None => Line::Malformed,
+    }
+}
+
+fn alone<'a>(line: Line<'a>, operands: Operands<'a>) -> Line<'a>
+    ensures { form result ≡ alone_form (form line.entry) (words_seen operands.entry) }
+{
+    match operands {
+        Operands::Nothing => line,
+        Operands::One(_) | Operands::Two(_, _) | Operands::More => Line::Malformed,
+    }
+}
+
+fn op_line(kind: OpKind, operands: Operands<'_>) -> Line<'_>
+    ensures { form result ≡ op_form kind (words_seen operands.entry) }
+{
+    match kind {
+        OpKind::Push => push_line(operands),
+        OpKind::Read => read_line(operands),
+        OpKind::Write => write_line(operands),
+        OpKind::Print => alone(Line::Print, operands),
+        OpKind::Halt => alone(Line::Halt, operands),
     }
 }
 
@@ -76,14 +91,11 @@ pub(crate) fn line_at(line: &[u8]) -> Line<'_>
     ensures named { DeclaresName (form result) }
 {
     let (word, rest) = take_word(line);
-    match (keyword_at(word), Operands::of(rest)) {
-        (Keyword::Var, Operands::Two(name, start)) => var_line(name, start),
-        (Keyword::Thread, Operands::Nothing) => Line::Thread,
-        (Keyword::Instruction(OpKind::Push), Operands::One(word)) => push_line(word),
-        (Keyword::Instruction(OpKind::Read), Operands::One(name)) => read_line(name),
-        (Keyword::Instruction(OpKind::Write), Operands::One(name)) => write_line(name),
-        (Keyword::Instruction(OpKind::Print), Operands::Nothing) => Line::Print,
-        (Keyword::Instruction(OpKind::Halt), Operands::Nothing) => Line::Halt,
-        _ => Line::Malformed,
+    let operands = Operands::of(rest);
+    match keyword_at(word) {
+        Keyword::Var => var_line(operands),
+        Keyword::Thread => alone(Line::Thread, operands),
+        Keyword::Instruction(kind) => op_line(kind, operands),
+        Keyword::Other => Line::Malformed,
     }
 }

@@ -4,9 +4,9 @@ ghost use Rattle.std.specs.Map.{update};
 ghost use Rattle.std.specs.Str.{bytes_eq};
 ghost use Rattle.assembler.specs.Naming.{position_of};
 
-use crate::refusal::Refusal;
 use std::alloc::Global;
 use std::collections::BTreeMap;
+use stride_base::NoMemory;
 
 /// The position of each declared name, which is a piece of the text.
 #[derive(Drop)]
@@ -32,7 +32,7 @@ impl<'a> Names<'a> {
     }
 
     /// Keeps the position of one more name.
-    pub(crate) fn insert(&mut self, name: &'a [u8], position: u32) -> Result<(), Refusal>
+    pub(crate) fn insert(&mut self, name: &'a [u8], position: u32) -> Result<(), NoMemory>
         ensures { OnOk result ((other : List ℕ) →
             position_of self.new other ≡ update bytes_eq (position_of self.old) name.now (Some position) other) }
     {

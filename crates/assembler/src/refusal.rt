@@ -1,5 +1,4 @@
 //! `Refusal`: why a step of reading came to an end.
-use std::alloc::AllocFailed;
 use stride_base::NoMemory as OutOfMemory;
 use stride_isa::AddError;
 
@@ -17,17 +16,6 @@ impl From<OutOfMemory> for Refusal {
     ghost from_gives = { λ _ refusal. refusal ≡ NoMemory };
 
     fn from(_cause: OutOfMemory) -> Refusal {
-        Refusal::NoMemory
-    }
-}
-
-impl<T: Drop> From<AllocFailed<T>> for Refusal {
-    ghost use Rattle.std.specs.Prelude.{◌≡◌};
-    ghost use Rattle.assembler.specs.declared.refusal.Refusal.TheVariants.{NoMemory};
-
-    ghost from_gives = { λ _ refusal. refusal ≡ NoMemory };
-
-    fn from(_cause: AllocFailed<T>) -> Refusal {
         Refusal::NoMemory
     }
 }
