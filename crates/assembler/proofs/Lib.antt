@@ -4,4 +4,5 @@ pub mod LineLemmas
 pub mod NameLemmas
 pub mod NumberLemmas
 pub mod OrderLemmas
+pub mod ReadingLemmas
 pub mod WordLemmas

@@ -3,7 +3,9 @@
 #![tactic(auto)]
 
 mod asm_error;
+mod assembling;
 mod assembly;
+mod inputs;
 mod keyword;
 mod line;
 mod lines;
@@ -17,6 +19,8 @@ mod splitting;
 mod words;
 
 pub use asm_error::{AsmError, AsmKind};
+pub use assembling::assemble;
+pub use inputs::read_input;
 pub use lines::ends_with_line_feed;
 pub use order_split::OrderSplit;
 pub use orders::read_order;

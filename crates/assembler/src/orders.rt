@@ -57,7 +57,8 @@ fn read_lines(alloc: Global, text: &[u8]) -> Result<List<u8>, Refusal>
     Ok(order)
 }
 
-fn read_ended(alloc: Global, text: &[u8]) -> Result<List<u8>, Refusal>
+/// The order that the text spells, as `read_order` gives it.
+pub(crate) fn order_of(alloc: Global, text: &[u8]) -> Result<List<u8>, Refusal>
     ensures { Gives (λ order. order.items) result (order_spelled text.now) }
 {
     if !ends_with_line_feed(text) {
@@ -71,5 +72,5 @@ fn read_ended(alloc: Global, text: &[u8]) -> Result<List<u8>, Refusal>
 pub fn read_order(alloc: Global, text: &[u8]) -> Result<List<u8>, AsmError>
     ensures { IsAnswer (λ order. order.items) result (order_spelled text.now) }
 {
-    Ok(read_ended(alloc, text)?)
+    Ok(order_of(alloc, text)?)
 }
