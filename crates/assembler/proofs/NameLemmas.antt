@@ -41,11 +41,11 @@ pub find_decl-push : (p : Listing) (decl : Decl) (name : List ℕ) → is_taken 
 find_decl-push p decl name free =
     let absent = find_decl-absent decl.name p.decls (not_declared _ _ free) in
     at (bytes_eq decl.name name) refl absent where
-  at : (here : Bool) → bytes_eq decl.name name ≡ here → find_decl decl.name p.decls ≡ None → cond here (Some (length p.decls)) (find_decl name p.decls) ≡ find_decl name (p.decls ++ decl ∷ [])
-  at true same absent =
-      let e = (bytes_eq-Decides decl.name name).0 same in
-      sym (find_decl-new name p.decls decl same (rw e at absent))
-  at false other absent = sym (find_decl-other name p.decls decl other)
+      at : (here : Bool) → bytes_eq decl.name name ≡ here → find_decl decl.name p.decls ≡ None → cond here (Some (length p.decls)) (find_decl name p.decls) ≡ find_decl name (p.decls ++ decl ∷ [])
+      at true same absent =
+          let e = (bytes_eq-Decides decl.name name).0 same in
+          sym (find_decl-new name p.decls decl same (rw e at absent))
+      at false other absent = sym (find_decl-other name p.decls decl other)
 
 pub positions-in_step : (f g : List ℕ → Option ℕ) (p q : Listing) (decl : Decl) (word : List ℕ) (at : ℕ) → ((name : List ℕ) → f name ≡ find_decl name p.decls) → ((name : List ℕ) → g name ≡ update bytes_eq f word (Some at) name) → decl.name ≡ word → at ≡ length p.decls → is_taken p decl.name ≡ false → q ≡ with_decl p decl → (name : List ℕ) → g name ≡ find_decl name q.decls
 positions-in_step f g p q decl word at old new named last free grown name =

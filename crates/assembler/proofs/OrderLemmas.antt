@@ -33,11 +33,11 @@ within_limit-some order new =
 within_limit-none : (order more : List ℕ) → within_limit order ≡ None → within_limit (order ++ more) ≡ None
 within_limit-none order more e =
     elim (leb_tells (length order) order_limit) [
-        inl fits ↦ let none = rw fits.0 at e in absurd (cc none)
-        | inr past ↦
-            let long : order_limit < length (order ++ more) = simp length-append (omega arith) in
-            let test = lt-leb (length (order ++ more)) order_limit long in
-            rw test refl
+      | inl fits ↦ let none = rw fits.0 at e in absurd (cc none)
+      | inr past ↦
+          let long : order_limit < length (order ++ more) = simp length-append (omega arith) in
+          let test = lt-leb (length (order ++ more)) order_limit long in
+          rw test refl
     ]
 
 regrouped : (order new : List ℕ) (front : List ℕ) (behind : Option (List ℕ)) → order ++ front ≡ new → option_and_then (λ more. within_limit (order ++ more)) (prefixed front behind) ≡ option_and_then (λ more. within_limit (new ++ more)) behind

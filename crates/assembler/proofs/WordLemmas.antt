@@ -33,8 +33,8 @@ words_of-some : (line : List ℕ) → 0 < length (words_of line)
 words_of-some [] = omega arith
 words_of-some (byte ∷ bytes) =
     elim (eqb byte 32) as (λ is_space. 0 < length (cond is_space ([] ∷ words_of bytes) (onto_first byte (words_of bytes)))) [
-        true ↦ omega arith
-        | false ↦ onto_first-some byte (words_of bytes)
+      | true ↦ omega arith
+      | false ↦ onto_first-some byte (words_of bytes)
     ]
 
 -- a line with two words and more

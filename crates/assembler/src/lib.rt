@@ -25,3 +25,6 @@ pub use lines::ends_with_line_feed;
 pub use order_split::OrderSplit;
 pub use orders::read_order;
 pub use splitting::split_order;
+
+#[cfg(test)]
+mod tests;

@@ -1,6 +1,5 @@
 //! `OrderSplit`: where the line `order` splits an input.
 
-
 /// Where an input is split into a program's text and an order.
 #[derive(Clone, Copy, Debug, PartialEq, Eq)]
 pub struct OrderSplit {
