@@ -1,5 +1,5 @@
 -- Where the line `order` splits an input into a program's text and an order.
-use Rattle.std.specs.Prelude.{ℕ, ◌+◌, List, [], ◌∷◌, length, min, take, drop, codes, if◌then◌else◌}
+use Rattle.std.specs.Prelude.{ℕ, ◌+◌, List, [], ◌∷◌, length, min, codes, if◌then◌else◌}
 use Rattle.std.specs.Str.{bytes_eq}
 use Rattle.assembler.specs.Lines.{lines}
 use Rattle.assembler.specs.declared.order_split.OrderSplit.{OrderSplit}
@@ -15,11 +15,3 @@ split_from total offset number (line ∷ rest) =
 -- the split of a text; its lines are numbered from 1
 abbrev pub split : List ℕ → OrderSplit
 split text = split_from (length text) 0 1 (lines text)
-
--- the text before the line `order`
-abbrev pub program_part : List ℕ → List ℕ
-program_part text = take (split text).program_end text
-
--- the text behind the line `order`
-abbrev pub order_part : List ℕ → List ℕ
-order_part text = drop (split text).order_start text

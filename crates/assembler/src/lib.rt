@@ -1,5 +1,9 @@
 //! Programs and orders, read from their text.
 //!
+//! Owns what the lines and words of a text are (`Lines`, `Words`, `Numbers`), what a line says (`Forms`), which program
+//! a text spells (`Programs`), which order (`Orders`), and how an input holds both (`Splits`, `Inputs`).
+//! The layer above may rely on this: unless memory runs out, a text is read exactly where it spells something, and to
+//! what it spells; every other text is a bad line at line 0. A program that was read is straight, so it can be checked.
 #![tactic(auto)]
 
 mod asm_error;
