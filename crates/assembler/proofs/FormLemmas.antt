@@ -1,5 +1,5 @@
 -- Keywords and the forms of lines.
-use Rattle.std.proofs.Common.{◌≡◌, ◌≢◌, ℕ, ◌<◌, List, [], ◌∷◌, length, false, codes, None, find, refl, arith}
+use Rattle.std.proofs.Common.{◌≡◌, ◌≢◌, ℕ, List, [], ◌∷◌, false, codes, None, find, refl}
 use Rattle.std.specs.Str.{bytes_eq}
 use Rattle.std.proofs.lemmas.Bool.{false_from_ne_true}
 use Rattle.std.proofs.lemmas.Slice.Eq.{bytes_eq-Decides}
@@ -7,7 +7,6 @@ use Rattle.stride_isa.specs.Instructions.{spelling}
 use Rattle.stride_isa.specs.declared.op.OpKind.{OpKind}
 use Rattle.stride_isa.specs.declared.op.OpKind.TheVariants.{Push, Read, Write, Print, Halt}
 use Rattle.assembler.specs.Forms.{keyword_of}
-use Rattle.assembler.specs.declared.keyword.Keyword.{Keyword}
 use Rattle.assembler.specs.declared.keyword.Keyword.TheVariants.{Other}
 
 find_named-none : (word : List ℕ) (kinds : List OpKind) → ((kind : OpKind) → spelling kind ≢ word) → find (λ kind. bytes_eq (spelling kind) word) kinds ≡ None

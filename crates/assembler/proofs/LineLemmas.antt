@@ -3,7 +3,7 @@ use Rattle.std.proofs.Common.{◌≡◌, ◌≢◌, ℕ, ◌+◌, ◌-◌, ◌<�
 use Rattle.std.specs.List.{slice_get}
 use Rattle.std.proofs.lemmas.Bool.{ne_eqb}
 use Rattle.std.proofs.lemmas.List.{take_more, drop_more, take_all, drop_all}
-use Rattle.assembler.specs.Lines.{lines, ends_lines, onto_first}
+use Rattle.assembler.specs.Lines.{lines, ends_lines}
 use Rattle.assembler.proofs.Glued.{glued, glued-push, glued-end, glued-none}
 
 -- what the first bytes and the lines of the rest make together

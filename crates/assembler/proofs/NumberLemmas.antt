@@ -1,10 +1,10 @@
 -- The steps of the loop that reads a number.
-use Rattle.std.proofs.Common.{◌≡◌, ◌≢◌, ℕ, ◌+◌, ◌-◌, ◌*◌, ◌<◌, ◌≤◌, Bool, true, false, cond, List, [], ◌∷◌, length, get_or, drop, Option, None, refl, arith}
+use Rattle.std.proofs.Common.{◌≡◌, ℕ, ◌+◌, ◌-◌, ◌*◌, ◌<◌, ◌≤◌, Bool, true, false, cond, List, [], ◌∷◌, length, get_or, drop, Option, None, refl, arith}
 use Rattle.std.specs.Char.{is_ascii_digit}
 use Rattle.std.specs.Option.{option_and_then}
 use Rattle.std.proofs.lemmas.Bool.{le-ltb}
 use Rattle.std.proofs.lemmas.List.{drop_more}
-use Rattle.assembler.specs.Numbers.{digits_after, below, number}
+use Rattle.assembler.specs.Numbers.{digits_after, below}
 
 -- the number below the limit that the digits from here on make behind this value
 abbrev pub number_from : ℕ → ℕ → List ℕ → Option ℕ

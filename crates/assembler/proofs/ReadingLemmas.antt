@@ -1,10 +1,10 @@
 -- Reading a program line by line.
-use Rattle.std.proofs.Common.{◌≡◌, Bool, true, false, ◌||◌, cond, List, [], ◌∷◌, Option, Some, None, refl, sym}
+use Rattle.std.proofs.Common.{◌≡◌, Bool, true, false, ◌||◌, cond, List, [], ◌∷◌, Option, Some, None, refl}
 use Rattle.std.specs.Option.{option_and_then}
 use mathlib.Core.List.{reverse_aux}
 use Rattle.stride_isa.specs.Listing.{Listing, empty}
 use Rattle.assembler.specs.Forms.{Form}
-use Rattle.assembler.specs.Programs.{is_refused, added, made, has_fault, made_of, next}
+use Rattle.assembler.specs.Programs.{is_refused, made, has_fault, made_of, next}
 
 -- the program that goes on with these lines
 abbrev pub continued : Listing → List Form → Option Listing

@@ -1,5 +1,5 @@
 -- The whole input of a program and an order.
-use Rattle.std.specs.Prelude.{ℕ, List, take, drop, if◌then◌else◌, Option, Some, None, option_and_then}
+use Rattle.std.specs.Prelude.{ℕ, List, take, drop, if◌then◌else◌, Option, None, option_and_then}
 use Rattle.std.specs.Option.{option_map}
 use Rattle.stride_isa.specs.Listing.{Listing}
 use Rattle.assembler.specs.Lines.{ends_lines}

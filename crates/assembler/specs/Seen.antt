@@ -1,6 +1,5 @@
 -- What the assembler's own types stand for.
 use Rattle.std.specs.Prelude.{◌≡◌, ℕ, List}
-use Rattle.stride_isa.specs.Listing.{Listing}
 use Rattle.assembler.specs.Forms.{Form, Following, NoWord, OneWord, TwoWords, MoreWords, VarLine, ThreadLine, PushLine, ReadLine, WriteLine, PrintLine, HaltLine, Malformed}
 use Rattle.assembler.specs.Naming.{position_of}
 use Rattle.assembler.specs.Programs.{find_decl, has_thread}
