@@ -1,11 +1,11 @@
 -- Schedules: lists of thread numbers, one for each shared instruction of a run.
-use Rattle.std.specs.Prelude.{ℕ, zero, suc, ◌+◌, ◌-◌, Bool, not, if◌then◌else◌, List, [], ◌∷◌, ◌++◌, length, map, take, find, replicate, Option, Some, None, is_some, slice_set}
+use Rattle.std.specs.Prelude.{ℕ, zero, suc, ◌+◌, ◌-◌, Bool, not, if◌then◌else◌, List, [], ◌∷◌, ◌++◌, length, map, take, find, replicate, Option, Some, None, is_some}
 use Rattle.std.specs.List.{range_with_len}
 use Rattle.std.specs.Option.{option_map}
 use Rattle.stride_isa.specs.Listing.{Listing, cell_count}
 use Rattle.sc_machine.specs.declared.end.End.{End}
 use Rattle.sc_machine.specs.ThreadStep.{Thread, printed_by, now, local_step, settled, end_of}
-use Rattle.sc_machine.specs.Machine.{Machine, Printed, start_machine, thread_at, can, printed_line, sc_step, sc_run}
+use Rattle.sc_machine.specs.Machine.{Machine, Printed, start_machine, thread_at, can, printed_line, with_thread, sc_step, sc_run}
 
 -- the lines that up to n local instructions of the thread print
 unfoldable pub printed_in : Listing → ℕ → ℕ → ℕ → Thread → List Printed
@@ -18,10 +18,8 @@ settled_lines p fuel t s = printed_in p fuel t (fuel - s.made) s
 
 -- the machine after the thread's local instructions up to its next shared one or its end
 unfoldable pub settle : Listing → ℕ → ℕ → Machine → Machine
-settle p fuel t m = record m {
-  threads = slice_set m.threads t (settled p fuel t (thread_at m t));
-  transcript = m.transcript ++ settled_lines p fuel t (thread_at m t);
-}
+settle p fuel t m =
+    with_thread t (settled p fuel t (thread_at m t)) (settled_lines p fuel t (thread_at m t)) m
 
 -- the machine after a turn: the shared instruction of the thread, and its local ones up to the next shared one or its end
 unfoldable pub turn : Listing → ℕ → ℕ → Machine → Machine
