@@ -1,6 +1,7 @@
 pub mod Digits
 mod Examples
 pub mod Inside
+pub mod Refusals
 pub mod Rows
 pub mod Single
 pub mod Steps

@@ -23,15 +23,15 @@ local_steps-made-le p fuel t zero s = omega arith
 local_steps-made-le p fuel t (suc n) s =
     omega (arith, moved-made-le fuel (now p t s) s, local_steps-made-le p fuel t n (local_step p fuel t s))
 
+pub append_under : (b : Bool) (f : Machine → Option Machine) (x y : Option Machine) → x ≡ option_and_then f y → cond b x None ≡ option_and_then f (cond b y None)
+append_under true f x y e = e
+append_under false f x y e = refl
+
 -- two runs in a row
 pub sc_run-append : (p : Listing) (fuel : ℕ) (xs ys : List ℕ) (m : Machine) → sc_run p fuel (xs ++ ys) m ≡ option_and_then (sc_run p fuel ys) (sc_run p fuel xs m)
 unfolding sc_run
 sc_run-append p fuel [] ys m = refl
 sc_run-append p fuel (t ∷ xs) ys m = append_under (can p t m) (sc_run p fuel ys) (sc_run p fuel (xs ++ ys) (sc_step p fuel t m)) (sc_run p fuel xs (sc_step p fuel t m)) (sc_run-append p fuel xs ys (sc_step p fuel t m))
-  where
-    append_under : (b : Bool) (f : Machine → Option Machine) (x y : Option Machine) → x ≡ option_and_then f y → cond b x None ≡ option_and_then f (cond b y None)
-    append_under true f x y e = e
-    append_under false f x y e = refl
 
 with_thread-with_thread : (t : ℕ) (s s' : Thread) (xs ys : List Printed) (m : Machine) → with_thread t s' ys (with_thread t s xs m) ≡ with_thread t s' (xs ++ ys) m
 with_thread-with_thread t s s' xs ys m =

@@ -30,6 +30,12 @@ unfoldable pub turns : Listing → ℕ → List ℕ → Machine → Option Machi
 turns p fuel [] m = Some m
 turns p fuel (t ∷ ts) m = if can p t m then turns p fuel ts (turn p fuel t m) else None
 
+-- the place of the first member that is not enabled when its turn comes, none where each is
+unfoldable pub stuck_place : Listing → ℕ → List ℕ → Machine → Option ℕ
+stuck_place p fuel [] m = None
+stuck_place p fuel (t ∷ ts) m =
+    if can p t m then option_map suc (stuck_place p fuel ts (turn p fuel t m)) else Some 0
+
 -- the machine after the local starts of these threads
 unfoldable pub started : Listing → ℕ → List ℕ → Machine → Machine
 started p fuel [] m = m
