@@ -1,3 +1,4 @@
+pub mod AtStop
 pub mod Digits
 mod Examples
 pub mod Inside
