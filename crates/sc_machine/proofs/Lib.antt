@@ -6,4 +6,7 @@ pub mod Output
 pub mod Refusals
 pub mod Rows
 pub mod Single
+pub mod Standing
+pub mod Starts
 pub mod Steps
+pub mod Told

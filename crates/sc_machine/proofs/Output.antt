@@ -95,7 +95,7 @@ printed_in-tagged p fuel t (suc n) s =
     ∙ ap (λ xs. transcript_bytes (printed_line t bytes) ++ xs) (printed_in-tagged p fuel t n (local_step p fuel t s))
     ∙ sym (flat_map-append spelled (printed_line t bytes) lines)
 
-moved-out : (fuel : ℕ) (r : Row) (s : Thread) → (moved fuel r s).out ≡ s.out ++ printed_by r
+pub moved-out : (fuel : ℕ) (r : Row) (s : Thread) → (moved fuel r s).out ≡ s.out ++ printed_by r
 moved-out fuel (Goes pc stack locals printed) s = refl
 moved-out fuel (Ends end) s = sym (append-nil s.out)
 moved-out fuel (Stands stop) s = sym (append-nil s.out)
