@@ -4,7 +4,7 @@ use Rattle.stride_isa.specs.Listing.{Listing, code_of, cell_count}
 use Rattle.sc_machine.specs.declared.end.End.{End}
 use Rattle.sc_machine.specs.declared.stop.Stop.{Stop}
 use Rattle.sc_machine.specs.declared.stop.Stop.TheVariants.{Read, Write, Ended}
-use Rattle.sc_machine.specs.ThreadStep.{Thread, stop_of, answered}
+use Rattle.sc_machine.specs.ThreadStep.{Thread, Stands, now, stop_of, answered}
 
 -- a run of one thread of a program, with its fuel
 pub record Run : Type 0 where
@@ -25,6 +25,10 @@ state r out = record { pc = r.pc; stack = r.stack; locals = r.locals; held = r.h
 -- the shared instruction, or the end, at which the run stands
 abbrev pub stop_at : Run → Stop
 stop_at r = stop_of r.program r.thread (state r [])
+
+-- the run stands at this stop
+abbrev pub StandsAt : Run → Stop → Type 0
+StandsAt r stop = now r.program r.thread (state r []) ≡ Stands stop
 
 -- it is a run of the same thread of the same program, with the same fuel
 pub record SameThread (old new : Run) : Type 0 where

@@ -1,7 +1,7 @@
 //! One thread's run.
 ghost use Rattle.std.specs.Prelude.{◌≡◌, ◌+◌, ◌-◌, ◌*◌, ◌≤◌, ◌<◌, [], Some, IfSome, length, unwrap_or, slice_index_or, false};
 ghost use Rattle.sc_machine.specs.ThreadStep.{out_of_steps as steps_end, start_thread, settled};
-ghost use Rattle.sc_machine.specs.ThreadRun.{state, stop_at, SameThread, IsAnswered, IsShared, TakesWord, NamesCell};
+ghost use Rattle.sc_machine.specs.ThreadRun.{state, stop_at, StandsAt, SameThread, IsAnswered, IsShared, TakesWord, NamesCell};
 ghost use Rattle.sc_machine.specs.Went.{Went};
 ghost use Rattle.sc_machine.specs.declared.end.End.TheVariants.{Stopped};
 
@@ -125,6 +125,7 @@ impl<'p> ThreadRun<'p> {
         ensures state { state self.new out.new.items
             ≡ settled self.old.program self.old.fuel self.old.thread (state self.old out.old.items) }
         ensures stop { result ≡ stop_at self.new }
+        ensures stands { StandsAt self.new result }
         ensures same { SameThread self.old self.new }
         ensures names_cell { NamesCell self.old.program result }
         ensures made { self.old.made ≤ self.new.made }
