@@ -18,3 +18,6 @@ pub use laws::{
 pub use stop::Stop;
 pub use thread_run::ThreadRun;
 pub use trap::Trap;
+
+#[cfg(test)]
+mod tests;
