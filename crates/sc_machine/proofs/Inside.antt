@@ -33,7 +33,7 @@ chosen_none true x e = refl
 chosen_none false x e = cc
 
 -- a thread that is not out of steps has fuel left
-fuel_left : (fuel made : ℕ) → out_of_steps fuel made ≡ None → made < fuel
+pub fuel_left : (fuel made : ℕ) → out_of_steps fuel made ≡ None → made < fuel
 fuel_left fuel made e = ltb-true made fuel (chosen_none (nat_lt made fuel) OutOfSteps e)
 
 -- what always holds stays after an instruction that leads on

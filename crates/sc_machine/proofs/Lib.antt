@@ -1,9 +1,12 @@
+pub mod AtStop
 pub mod Digits
 mod Examples
 pub mod Inside
-pub mod PrintedLines
-pub mod Refused
+pub mod Output
+pub mod Refusals
 pub mod Rows
+pub mod Single
+pub mod Standing
 pub mod Starts
 pub mod Steps
-pub mod Turns
+pub mod Told

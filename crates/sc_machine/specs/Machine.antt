@@ -79,12 +79,13 @@ abbrev pub printed_line : ℕ → List ℕ → List Printed
 printed_line t [] = []
 printed_line t (byte ∷ bytes) = record { thread = t; line = byte ∷ bytes } ∷ []
 
+-- the machine with another state of one thread, and these lines at the end of the transcript
+abbrev pub with_thread : ℕ → Thread → List Printed → Machine → Machine
+with_thread t s lines m = record m { threads = slice_set m.threads t s; transcript = m.transcript ++ lines }
+
 -- the machine after a local instruction of the thread, which comes to this
 abbrev pub moved_by : ℕ → ℕ → Row → Machine → Machine
-moved_by fuel t next m = record m {
-  threads = slice_set m.threads t (moved fuel next (thread_at m t));
-  transcript = m.transcript ++ printed_line t (printed_by next);
-}
+moved_by fuel t next m = with_thread t (moved fuel next (thread_at m t)) (printed_line t (printed_by next)) m
 
 -- the machine after the thread makes what comes next
 abbrev pub stepped_by : Listing → ℕ → ℕ → Row → Machine → Machine

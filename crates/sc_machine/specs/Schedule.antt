@@ -4,8 +4,9 @@ use Rattle.std.specs.List.{range_with_len}
 use Rattle.std.specs.Option.{option_map}
 use Rattle.stride_isa.specs.Listing.{Listing, cell_count}
 use Rattle.sc_machine.specs.declared.end.End.{End}
-use Rattle.sc_machine.specs.ThreadStep.{Thread, printed_by, now, local_step, settled, end_of}
-use Rattle.sc_machine.specs.Machine.{Machine, Printed, start_machine, thread_at, can, printed_line, sc_step, sc_run}
+use Rattle.sc_machine.specs.declared.stop.Stop.{Stop}
+use Rattle.sc_machine.specs.ThreadStep.{Thread, printed_by, now, local_step, settled, answered, end_of}
+use Rattle.sc_machine.specs.Machine.{Machine, Printed, start_machine, thread_at, can, printed_line, with_thread, word_read, cells_after, holders_after, sc_step, sc_run}
 
 -- the lines that up to n local instructions of the thread print
 unfoldable pub printed_in : Listing → ℕ → ℕ → ℕ → Thread → List Printed
@@ -18,19 +19,34 @@ settled_lines p fuel t s = printed_in p fuel t (fuel - s.made) s
 
 -- the machine after the thread's local instructions up to its next shared one or its end
 unfoldable pub settle : Listing → ℕ → ℕ → Machine → Machine
-settle p fuel t m = record m {
-  threads = slice_set m.threads t (settled p fuel t (thread_at m t));
-  transcript = m.transcript ++ settled_lines p fuel t (thread_at m t);
-}
+settle p fuel t m =
+    with_thread t (settled p fuel t (thread_at m t)) (settled_lines p fuel t (thread_at m t)) m
 
 -- the machine after a turn: the shared instruction of the thread, and its local ones up to the next shared one or its end
 unfoldable pub turn : Listing → ℕ → ℕ → Machine → Machine
 turn p fuel t m = settle p fuel t (sc_step p fuel t m)
 
+-- the machine after the turn of a thread that stands at this stop
+unfoldable pub turned : Listing → ℕ → ℕ → Stop → Machine → Machine
+turned p fuel t stop m =
+    let s = answered p fuel t (word_read stop m.cells) (thread_at m t) in
+    record {
+      threads = slice_set m.threads t (settled p fuel t s);
+      cells = cells_after stop m.cells;
+      holders = holders_after t stop m.holders;
+      transcript = m.transcript ++ settled_lines p fuel t s
+    }
+
 -- the machine after one turn of each thread of the list in turn, if each is enabled when it is named
 unfoldable pub turns : Listing → ℕ → List ℕ → Machine → Option Machine
 turns p fuel [] m = Some m
 turns p fuel (t ∷ ts) m = if can p t m then turns p fuel ts (turn p fuel t m) else None
+
+-- the place of the first member that is not enabled when its turn comes, none where each is
+unfoldable pub stuck_place : Listing → ℕ → List ℕ → Machine → Option ℕ
+stuck_place p fuel [] m = None
+stuck_place p fuel (t ∷ ts) m =
+    if can p t m then option_map suc (stuck_place p fuel ts (turn p fuel t m)) else Some 0
 
 -- the machine after the local starts of these threads
 unfoldable pub started : Listing → ℕ → List ℕ → Machine → Machine

@@ -4,7 +4,7 @@ use Rattle.stride_isa.specs.Listing.{Listing, code_of, cell_count}
 use Rattle.sc_machine.specs.declared.end.End.{End}
 use Rattle.sc_machine.specs.declared.stop.Stop.{Stop}
 use Rattle.sc_machine.specs.declared.stop.Stop.TheVariants.{Read, Write, Ended}
-use Rattle.sc_machine.specs.ThreadStep.{Thread, stop_of, answered}
+use Rattle.sc_machine.specs.ThreadStep.{Thread, start_thread, Stands, now, stop_of, answered}
 
 -- a run of one thread of a program, with its fuel
 pub record Run : Type 0 where
@@ -22,9 +22,27 @@ pub record Run : Type 0 where
 abbrev pub state : Run → List ℕ → Thread
 state r out = record { pc = r.pc; stack = r.stack; locals = r.locals; held = r.held; out = out; made = r.made; ended = r.ended }
 
+-- a run at its start
+abbrev pub start_run : Listing → ℕ → ℕ → Run
+start_run p thread fuel = record {
+  program = p;
+  thread = thread;
+  fuel = fuel;
+  pc = start_thread.pc;
+  stack = start_thread.stack;
+  locals = start_thread.locals;
+  held = start_thread.held;
+  made = start_thread.made;
+  ended = start_thread.ended
+}
+
 -- the shared instruction, or the end, at which the run stands
 abbrev pub stop_at : Run → Stop
 stop_at r = stop_of r.program r.thread (state r [])
+
+-- the run stands at this stop
+abbrev pub StandsAt : Run → Stop → Type 0
+StandsAt r stop = now r.program r.thread (state r []) ≡ Stands stop
 
 -- it is a run of the same thread of the same program, with the same fuel
 pub record SameThread (old new : Run) : Type 0 where

@@ -15,6 +15,14 @@ spelled printed = tag printed.thread ++ printed.line
 abbrev pub transcript_bytes : List Printed → List ℕ
 transcript_bytes lines = flat_map spelled lines
 
+-- the bytes of the lines, without their threads
+abbrev pub line_bytes : List Printed → List ℕ
+line_bytes lines = flat_map (λ printed. printed.line) lines
+
+-- the bytes of the lines of one thread
+abbrev pub bytes_of : ℕ → List Printed → List ℕ
+bytes_of t lines = flat_map (λ printed. if printed.thread == t then printed.line else []) lines
+
 -- these bytes with the thread's tag before each line; begins tells whether the first byte begins a line
 abbrev pub tagged : ℕ → Bool → List ℕ → List ℕ
 tagged t begins [] = []

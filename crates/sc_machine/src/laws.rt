@@ -1,15 +1,44 @@
-//! Laws over the definitions of runs, for every program: each is the contract of a function without a body.
-ghost use Rattle.std.specs.Prelude.{◌≡◌, ◌++◌, ℕ, List, Some, None, true};
-ghost use Rattle.stride_isa.specs.Listing.{Listing};
-ghost use Rattle.sc_machine.specs.Machine.{Machine};
-ghost use Rattle.sc_machine.specs.Schedule.{turns, ready, run_of, refused_place};
+//! Laws of the machine, over its definitions alone. Each is the contract of a function that does nothing.
+ghost use Rattle.sc_machine.specs.Laws.{TurnsAreSteps, RefusedWhereStuck, StartsSettle, TurnByStop, SettledStands, SettledPrints, OutputsAreLines};
 
-/// A run by single steps, each enabled when it is made, is the run by whole turns from the local starts on.
-pub fn single_steps_are_turns()
-    ensures { (p : Listing) (fuel : ℕ) (schedule : List ℕ) → run_of p fuel schedule ≡ turns p fuel schedule (ready p fuel) }
-{}
+/// The single steps of a schedule do what its whole turns do, behind the local starts.
+pub fn turns_are_steps()
+    ensures { TurnsAreSteps }
+{
+}
 
-/// No member of a schedule is refused.
-pub fn schedules_have_no_refused_place()
-    ensures { (p : Listing) (fuel : ℕ) (schedule : List ℕ) (m : Machine) → run_of p fuel schedule ≡ Some m → refused_place p fuel schedule ≡ None }
-{}
+/// A list is refused at the first member that is not enabled when its turn comes.
+pub fn refused_where_stuck()
+    ensures { RefusedWhereStuck }
+{
+}
+
+/// After the local starts each thread has settled by itself.
+pub fn starts_settle()
+    ensures { StartsSettle }
+{
+}
+
+/// The turn of a thread that stands is one equation by its stop.
+pub fn turn_by_stop()
+    ensures { TurnByStop }
+{
+}
+
+/// A thread settles at a shared instruction or at its end.
+pub fn settled_stands()
+    ensures { SettledStands }
+{
+}
+
+/// What a thread prints until it settles is its lines of the transcript.
+pub fn settled_prints()
+    ensures { SettledPrints }
+{
+}
+
+/// The output of each thread of a run is its lines of the transcript.
+pub fn outputs_are_lines()
+    ensures { OutputsAreLines }
+{
+}

@@ -1,7 +1,7 @@
 //! One thread's run.
-ghost use Rattle.std.specs.Prelude.{◌≡◌, ◌+◌, ◌-◌, ◌*◌, ◌≤◌, ◌<◌, [], Some, IfSome, length, unwrap_or, slice_index_or, false};
-ghost use Rattle.sc_machine.specs.ThreadStep.{Stands, now, out_of_steps as steps_end, start_thread, settled};
-ghost use Rattle.sc_machine.specs.ThreadRun.{state, stop_at, SameThread, IsAnswered, IsShared, TakesWord, NamesCell};
+ghost use Rattle.std.specs.Prelude.{◌≡◌, ◌+◌, ◌-◌, ◌*◌, ◌≤◌, ◌<◌, Some, IfSome, length, unwrap_or, slice_index_or, false};
+ghost use Rattle.sc_machine.specs.ThreadStep.{out_of_steps as steps_end, settled};
+ghost use Rattle.sc_machine.specs.ThreadRun.{start_run, state, stop_at, StandsAt, SameThread, IsAnswered, IsShared, TakesWord, NamesCell};
 ghost use Rattle.sc_machine.specs.Went.{Went};
 ghost use Rattle.sc_machine.specs.declared.end.End.TheVariants.{Stopped};
 
@@ -58,10 +58,7 @@ impl<'p> ThreadRun<'p> {
         requires thread { thread < length program.now.threads }
         requires some { 1 ≤ fuel }
         requires limit { fuel ≤ 1000000 }
-        ensures program { result.program ≡ program.now }
-        ensures thread { result.thread ≡ thread }
-        ensures fuel { result.fuel ≡ fuel }
-        ensures state { state result [] ≡ start_thread }
+        ensures { result ≡ start_run program.now thread fuel }
     {
         // A checked program has no thread without code, so position 0 is inside the code.
         let code_len = program.code_len(thread);
@@ -125,7 +122,7 @@ impl<'p> ThreadRun<'p> {
         ensures state { state self.new out.new.items
             ≡ settled self.old.program self.old.fuel self.old.thread (state self.old out.old.items) }
         ensures stop { result ≡ stop_at self.new }
-        ensures stands { now self.new.program self.new.thread (state self.new out.new.items) ≡ Stands result }
+        ensures stands { StandsAt self.new result }
         ensures same { SameThread self.old self.new }
         ensures names_cell { NamesCell self.old.program result }
         ensures made { self.old.made ≤ self.new.made }
@@ -144,6 +141,7 @@ impl<'p> ThreadRun<'p> {
     pub fn answer(&mut self, word: Option<u64>)
         requires { TakesWord (stop_at self.old) word }
         ensures state { IsAnswered self.old self.new (unwrap_or word 0) }
+        ensures made { self.new.made ≡ self.old.made + 1 }
         ensures same { SameThread self.old self.new }
     {
         let op = self.program.op(self.thread, self.pc);
@@ -165,11 +163,11 @@ impl<'p> ThreadRun<'p> {
     }
 
     /// Whether the thread holds this monitor.
-    pub fn held(&self, mon: u32) -> bool
-        requires { mon < 64 }
-        ensures { result ≡ slice_index_or self.now.held mon false }
+    pub fn held(&self, monitor: u32) -> bool
+        requires { monitor < 64 }
+        ensures { result ≡ slice_index_or self.now.held monitor false }
     {
-        self.held[mon as usize]
+        self.held[monitor as usize]
     }
 
     /// The thread's number.

@@ -1,0 +1,44 @@
+-- What holds of every run of the machine, whatever the program is.
+use Rattle.std.specs.Prelude.{◌≡◌, ℕ, ◌<◌, List, ◌++◌, length, map, Option, Some, None}
+use Rattle.std.specs.List.{flat_map}
+use Rattle.std.specs.Prelude.{true}
+use Rattle.stride_isa.specs.Listing.{Listing, start_of}
+use Rattle.sc_machine.specs.declared.stop.Stop.{Stop}
+use Rattle.sc_machine.specs.ThreadStep.{Thread, Stands, start_thread, now, settled, stop_of, answered}
+use Rattle.sc_machine.specs.Machine.{Machine, thread_at, may_pass, can}
+use Rattle.sc_machine.specs.Schedule.{settled_lines, turn, turned, turns, stuck_place, ready, thread_numbers, run_of, refused_place, replayed, outputs}
+use Rattle.sc_machine.specs.Transcript.{transcript_bytes, line_bytes, bytes_of, tagged}
+
+-- the single steps of a schedule do what its whole turns do, behind the local starts
+abbrev pub TurnsAreSteps : Type 0
+TurnsAreSteps = (p : Listing) (fuel : ℕ) (schedule : List ℕ) → run_of p fuel schedule ≡ turns p fuel schedule (ready p fuel)
+
+-- a list is refused at the first member that is not enabled when its turn comes, and at none where each is
+abbrev pub RefusedWhereStuck : Type 0
+RefusedWhereStuck = (p : Listing) (fuel : ℕ) (schedule : List ℕ) → refused_place p fuel schedule ≡ stuck_place p fuel schedule (ready p fuel)
+
+-- after the local starts each thread has settled by itself, and its lines stand in order of number
+abbrev pub StartsSettle : Type 0
+StartsSettle = (p : Listing) (fuel : ℕ) → ready p fuel ≡ record {
+  threads = map (λ t. settled p fuel t start_thread) (thread_numbers p);
+  cells = start_of p;
+  holders = λ monitor. None;
+  transcript = flat_map (λ t. settled_lines p fuel t start_thread) (thread_numbers p)
+}
+
+-- a thread that stands is enabled where it may pass its stop, and its turn is one equation by that stop
+abbrev pub TurnByStop : Type 0
+TurnByStop = (p : Listing) (fuel t : ℕ) (stop : Stop) (m : Machine) → t < length m.threads → now p t (thread_at m t) ≡ Stands stop → (can p t m ≡ may_pass stop m.holders) × (turn p fuel t m ≡ turned p fuel t stop m)
+
+-- a thread with fuel left where it has not ended settles at a shared instruction or at its end
+abbrev pub SettledStands : Type 0
+SettledStands = (p : Listing) (fuel t : ℕ) (s : Thread) → (s.ended ≡ None → s.made < fuel) → now p t (settled p fuel t s) ≡ Stands (stop_of p t (settled p fuel t s))
+
+-- the bytes that a thread prints until it settles are appended to its output, and with its tag before each line they
+-- are its lines of the transcript
+abbrev pub SettledPrints : Type 0
+SettledPrints = (p : Listing) (fuel t : ℕ) (s : Thread) → ((settled p fuel t s).out ≡ s.out ++ line_bytes (settled_lines p fuel t s)) × ((bytes : List ℕ) → (settled p fuel t s).out ≡ s.out ++ bytes → tagged t true bytes ≡ transcript_bytes (settled_lines p fuel t s))
+
+-- the output of each thread of a run is what its lines of the transcript say
+abbrev pub OutputsAreLines : Type 0
+OutputsAreLines = (p : Listing) (fuel : ℕ) (schedule : List ℕ) (m : Machine) → replayed p fuel schedule ≡ Some m → outputs m ≡ map (λ t. bytes_of t m.transcript) (thread_numbers p)

@@ -1,0 +1,116 @@
+//! What no clause says: that programs run as their writers mean, with texts and ends written down by hand.
+ghost use Rattle.std.specs.Prelude.{◌≡◌, IfSome, IfOk, length};
+ghost use Rattle.stride_isa.specs.declared.decl.Shape.TheVariants.{Single};
+
+use std::alloc::Global;
+use std::test::Fail;
+
+use stride_base::List;
+use stride_isa::{Checked, Decl, Name, Op, Program, Shape, check};
+
+use super::*;
+
+fn variable(bytes: &[u8], start: u64) -> Option<Decl>
+    ensures { IfSome result (λ d. d.shape ≡ Single) }
+{
+    let name = Name::of(bytes)?;
+    Some(Decl {
+        name,
+        shape: Shape::Single,
+        start,
+    })
+}
+
+fn add_thread(program: &mut Program, code: &[Op]) -> Result<(), Fail> {
+    program.add_thread()?;
+    for op in code {
+        program.add_op(*op)?;
+    }
+    Ok(())
+}
+
+// A program of one variable, `x`, that starts with 0, and two threads.
+fn two_threads(alloc: Global, first: &[Op], second: &[Op]) -> Result<Checked, Fail>
+    ensures { IfOk result (λ checked. length checked.threads ≡ 2) }
+{
+    let mut program = Program::new(alloc);
+    program.add_cells(variable(b"x", 0).ok_or("a name")?)?;
+    add_thread(&mut program, first)?;
+    add_thread(&mut program, second)?;
+    if !program.is_straight() {
+        return Err("not straight")?;
+    }
+    let checked = check(alloc, program)?;
+    if checked.threads() != 2 {
+        return Err("not two threads")?;
+    }
+    Ok(checked)
+}
+
+const WRITES: [Op; 3] = [Op::Push(3), Op::Write(0), Op::Halt];
+const READS: [Op; 3] = [Op::Read(0), Op::Print, Op::Halt];
+
+#[test]
+fn stops_are_told_and_answered(rt: HostRuntime) -> Result<(), Fail> {
+    let checked = two_threads(rt.alloc(), &WRITES, &READS)?;
+    let mut out = List::new(rt.alloc());
+    out.reserve(210)?;
+
+    let mut writer = ThreadRun::start(&checked, 0, 10);
+    let stop = writer.local(&mut out);
+    assert!(rt; stop == Stop::Write { cell: 0, value: 3 });
+    assert!(rt; writer.local(&mut out) == stop);
+    let Stop::Write { .. } = stop else {
+        return Err("no write")?;
+    };
+    writer.answer(None);
+    assert!(rt; writer.local(&mut out) == Stop::Ended { end: End::Halted });
+    assert!(rt; writer.ended() == Some(End::Halted));
+
+    let mut out = List::new(rt.alloc());
+    out.reserve(210)?;
+    let mut reader = ThreadRun::start(&checked, 1, 10);
+    let Stop::Read { cell: 0 } = reader.local(&mut out) else {
+        return Err("no read")?;
+    };
+    reader.answer(Some(12));
+    assert!(rt; reader.local(&mut out) == Stop::Ended { end: End::Halted });
+    assert!(rt; out.as_slice() == b"12\n".as_slice());
+    Ok(())
+}
+
+#[test]
+fn a_thread_is_given_up(rt: HostRuntime) -> Result<(), Fail> {
+    let checked = two_threads(rt.alloc(), &WRITES, &READS)?;
+    let mut out = List::new(rt.alloc());
+    out.reserve(210)?;
+    let mut writer = ThreadRun::start(&checked, 0, 10);
+    let Stop::Write { .. } = writer.local(&mut out) else {
+        return Err("no write")?;
+    };
+    assert!(rt; !writer.held(63));
+    assert!(rt; writer.give_up() == End::Stopped { pc: 1 });
+    assert!(rt; writer.local(&mut out) == Stop::Ended { end: End::Stopped { pc: 1 } });
+    assert_eq!(rt; writer.thread(), 0);
+    Ok(())
+}
+
+#[test]
+fn prints_and_ends(rt: HostRuntime) -> Result<(), Fail> {
+    let rows: [(u64, u32, &[u8], End); 5] = [
+        (0, 3, b"0\n", End::Halted),
+        (907, 10, b"907\n", End::Halted),
+        (18446744073709551615, 1_000_000, b"18446744073709551615\n", End::Halted),
+        (10, 2, b"10\n", End::OutOfSteps),
+        (10, 1, b"", End::OutOfSteps),
+    ];
+    for (word, fuel, text, end) in rows {
+        let checked = two_threads(rt.alloc(), &[Op::Push(word), Op::Print, Op::Halt], &READS)?;
+        let mut out = List::new(rt.alloc());
+        out.reserve(21_000_000)?;
+        let mut run = ThreadRun::start(&checked, 0, fuel);
+        assert!(rt; run.local(&mut out) == Stop::Ended { end });
+        assert!(rt; out.as_slice() == text, "at {word} with fuel {fuel}");
+    }
+    Ok(())
+}
