@@ -9,8 +9,7 @@ use Rattle.std.proofs.Math.Seq.{get_or-append_seam}
 use Rattle.stride_isa.specs.Listing.{Listing}
 use Rattle.sc_machine.specs.ThreadStep.{start_thread, settled}
 use Rattle.sc_machine.specs.Schedule.{settled_lines}
-use Rattle.sc_machine.specs.Transcript.{transcript_bytes}
-use Rattle.sc_machine.proofs.PrintedLines.{transcript-append}
+use Rattle.sc_machine.specs.Transcript.{spelled, transcript_bytes}
 use Rattle.stride_cli.specs.declared.player.Player.{Player}
 use Rattle.stride_cli.specs.Playing.{ArePlayers, IsPlayer, thread_of}
 
@@ -52,4 +51,4 @@ lines_more p fuel n before lines lines' so_far more =
     more
     ∙ ap (λ ls. ls ++ transcript_bytes (settled_lines p fuel n start_thread)) so_far
     ∙ append_assoc before (transcript_bytes some) (transcript_bytes (settled_lines p fuel n start_thread))
-    ∙ ap (λ ls. before ++ ls) (sym (transcript-append some (settled_lines p fuel n start_thread)) ∙ ap transcript_bytes (sym last))
+    ∙ ap (λ ls. before ++ ls) (sym (flat_map-append spelled some (settled_lines p fuel n start_thread)) ∙ ap transcript_bytes (sym last))

@@ -6,8 +6,8 @@ use Rattle.sc_machine.specs.declared.stop.Stop.{Stop}
 use Rattle.sc_machine.specs.ThreadStep.{Thread, Stands, now, settled, answered, start_thread}
 use Rattle.sc_machine.specs.ThreadRun.{Run, SameThread, IsAnswered, NamesCell, state}
 use Rattle.sc_machine.specs.Schedule.{settled_lines}
-use Rattle.sc_machine.specs.Transcript.{tag, tagged, transcript_bytes}
-use Rattle.sc_machine.proofs.PrintedLines.{bytes_of, settled_out, settled_tagged}
+use Rattle.sc_machine.specs.Transcript.{tag, tagged, line_bytes, transcript_bytes}
+use Rattle.sc_machine.proofs.Output.{settled-out, settled-tagged}
 use Rattle.stride_cli.specs.declared.player.Player.{Player}
 use Rattle.stride_cli.specs.Playing.{IsPlayer, WentOn, labelled, thread_of}
 use Rattle.stride_cli.proofs.Labels.{labelled-tag}
@@ -19,18 +19,18 @@ dropped (x ∷ xs) ys = dropped xs ys
 -- what a thread printed while it settled, with its label, is what a transcript has of it
 pub settled_labelled : (p : Listing) (fuel t : ℕ) (s : Thread) (label out : List ℕ) → label ≡ tag t → out ≡ (settled p fuel t s).out → labelled label true (drop (length s.out) out) ≡ transcript_bytes (settled_lines p fuel t s)
 settled_labelled p fuel t s label out tagged-is out-is =
-    let lines : List ℕ = bytes_of (settled_lines p fuel t s) in
+    let lines : List ℕ = line_bytes (settled_lines p fuel t s) in
     ap (λ l. labelled l true (drop (length s.out) out)) tagged-is
     ∙ labelled-tag t true (drop (length s.out) out)
-    ∙ ap (λ o. tagged t true (drop (length s.out) o)) (out-is ∙ settled_out p fuel t s)
+    ∙ ap (λ o. tagged t true (drop (length s.out) o)) (out-is ∙ settled-out p fuel t s)
     ∙ ap (tagged t true) (dropped s.out lines)
-    ∙ settled_tagged p fuel t s
+    ∙ settled-tagged p fuel t s lines (settled-out p fuel t s)
 
 -- a thread's output only grows while it settles
 pub out_grows : (p : Listing) (fuel t : ℕ) (s : Thread) (out : List ℕ) → out ≡ (settled p fuel t s).out → length s.out ≤ length out
 out_grows p fuel t s out e =
-    let long = ap length (e ∙ settled_out p fuel t s) in
-    omega (arith, long, length-append s.out (bytes_of (settled_lines p fuel t s)))
+    let long = ap length (e ∙ settled-out p fuel t s) in
+    omega (arith, long, length-append s.out (line_bytes (settled_lines p fuel t s)))
 
 -- the count of instructions after an answer
 pub answered_made : (old new : Run) (word : ℕ) → IsAnswered old new word → new.made ≡ old.made + 1

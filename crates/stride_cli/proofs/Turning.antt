@@ -12,10 +12,10 @@ use Rattle.sc_machine.specs.declared.stop.Stop.TheVariants.{Read, Write, Ended}
 use Rattle.sc_machine.specs.ThreadStep.{Thread, Stands, start_thread, now, settled, answered}
 use Rattle.sc_machine.specs.ThreadRun.{NamesCell, IsShared}
 use Rattle.sc_machine.specs.Machine.{Machine, thread_at, may_pass, can, put, word_read, cells_after, holders_after}
-use Rattle.sc_machine.specs.Schedule.{settled_lines, turn}
-use Rattle.sc_machine.specs.Transcript.{transcript_bytes}
-use Rattle.sc_machine.proofs.PrintedLines.{transcript-append}
-use Rattle.sc_machine.proofs.Turns.{turn-standing, can-standing}
+use Rattle.sc_machine.specs.Schedule.{settled_lines, turn, turned}
+use Rattle.sc_machine.specs.Transcript.{spelled, transcript_bytes}
+use Rattle.std.proofs.lemmas.Grind.{flat_map-append}
+use Rattle.sc_machine.proofs.AtStop.{turn-standing, can-standing}
 use Rattle.stride_cli.specs.declared.player.Player.{Player}
 use Rattle.stride_cli.specs.declared.table.Table.{Table}
 use Rattle.stride_cli.specs.Playing.{IsPlayer, IsTable, Shows, WentOn, cells_in, thread_of, word_in}
@@ -83,19 +83,20 @@ module _ (table : Table) (t : ℕ) (old new : Player) (transcript : Listed ℕ) 
   }
 
   pub turn_taken : (m : Machine) → IsTable table → t < length table.players.items → old ≡ get_or table.players.items t old → IsShared old.stop → Went → Shows table m → (can p t m ≡ true) × Shows after (turn p table.fuel t m)
+  unfolding turned
   turn_taken m is lt whose shared went shows =
       let player : IsPlayer p table.fuel t old = subst (λ (player : Player). IsPlayer p table.fuel t player) (sym whose) (is.each t old lt) in
       let thread = shown_thread table m t old shows lt whose in
       let there : t < length m.threads = omega (arith, ap length shows.threads, length-map table.players.items thread_of) in
       let stands : now p t (thread_at m t) ≡ Stands old.stop = ap (λ s. now p t s) thread ∙ player.stands in
-      let turned = turn-standing p table.fuel t m old.stop there stands in
+      let by_stop = turn-standing p table.fuel t old.stop m there stands in
       let word = word_shown table m old.stop shows player.cell in
       let answer : answered p table.fuel t (word_in old.stop table.cells) (thread_of old) ≡ answered p table.fuel t (word_read old.stop m.cells) (thread_at m t) =
         ap (λ w. answered p table.fuel t w (thread_of old)) word ∙ ap (λ s. answered p table.fuel t (word_read old.stop m.cells) s) (sym thread) in
-      let threads = ap (λ (k : Machine). k.threads) turned in
-      let cells = ap (λ (k : Machine). k.cells) turned in
-      let lines = ap (λ (k : Machine). k.transcript) turned in
-      (can-standing p t m old.stop there stands ∙ passes old.stop shared,
+      let threads = ap (λ (k : Machine). k.threads) by_stop in
+      let cells = ap (λ (k : Machine). k.cells) by_stop in
+      let lines = ap (λ (k : Machine). k.transcript) by_stop in
+      (can-standing p t old.stop m there stands ∙ passes old.stop shared,
         record {
           threads = threads
               ∙ ap (λ xs. set xs t (settled p table.fuel t (answered p table.fuel t (word_read old.stop m.cells) (thread_at m t)))) shows.threads
@@ -106,7 +107,7 @@ module _ (table : Table) (t : ℕ) (old new : Player) (transcript : Listed ℕ) 
           transcript = went.printed
               ∙ ap (λ xs. xs ++ transcript_bytes (settled_lines p table.fuel t (answered p table.fuel t (word_in old.stop table.cells) (thread_of old)))) shows.transcript
               ∙ ap (λ s. transcript_bytes m.transcript ++ transcript_bytes (settled_lines p table.fuel t s)) answer
-              ∙ sym (transcript-append m.transcript (settled_lines p table.fuel t (answered p table.fuel t (word_read old.stop m.cells) (thread_at m t))))
+              ∙ sym (flat_map-append spelled m.transcript (settled_lines p table.fuel t (answered p table.fuel t (word_read old.stop m.cells) (thread_at m t))))
               ∙ ap transcript_bytes (sym lines)
         })
     where

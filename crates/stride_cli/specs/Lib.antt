@@ -1,2 +1,5 @@
+pub mod Answers
+pub mod Commands
 pub mod Playing
+pub mod Refusals
 pub mod Reports

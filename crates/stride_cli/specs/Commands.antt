@@ -1,0 +1,11 @@
+-- The words of the command line.
+use Rattle.std.specs.Prelude.{ℕ, List, [], ◌∷◌, Option, Some, None, codes, if◌then◌else◌}
+use Rattle.std.specs.Str.{bytes_eq}
+use Rattle.stride_cli.specs.declared.command.Command.{Command}
+use Rattle.stride_cli.specs.declared.command.Command.TheVariants.{Follow}
+
+-- the command that the words name: one word, which is its name
+abbrev pub command_named : List (List ℕ) → Option Command
+command_named [] = None
+command_named (word ∷ []) = if bytes_eq word (codes "follow") then Some Follow else None
+command_named (word ∷ next ∷ words) = None

@@ -1,0 +1,74 @@
+//! The top call for all commands that start no thread.
+ghost use Rattle.std.specs.Prelude.{◌≡◌, ◌≤◌, ◌↔◌, [], None, Some, IfSome, map, length};
+ghost use Rattle.stride_base.specs.Devices.{Adds, AddsFront, Rose};
+ghost use Rattle.stride_cli.specs.Answers.{answer, commanded, Gives, HasStatus, OnDone, OnReadFault, OnWriteFault, OnRefusal};
+ghost use Rattle.stride_cli.specs.Commands.{command_named};
+
+use std::alloc::Global;
+use std::sync::ledger::Ledger;
+
+use stride_base::{Failed, InputError, List, Sink, Source, Steps, put_all, read_all};
+
+use crate::command::{Command, command_of};
+use crate::following::follow;
+use crate::refusal::Refusal;
+use crate::status::Status;
+
+/// The most bytes of an input.
+const INPUT_LIMIT: usize = 268_435_456;
+
+/// The report of a command on an input that was read.
+fn report_of(alloc: Global, command: Command, bytes: &[u8]) -> Result<List<u8>, Refusal>
+    requires { length bytes.now ≤ 268435456 }
+    ensures { Gives result (commanded command bytes.now) }
+{
+    match command {
+        Command::Follow => follow(alloc, bytes),
+    }
+}
+
+/// Does the command that the words name (the program's name is none of them): reads the whole input, and puts the
+/// whole report only when it is made. It starts no thread, and counts no step.
+///
+/// What is said of bytes holds where the source and the sink tell theirs.
+pub fn offline<S: Source, K: Sink, L: Ledger>(
+    alloc: Global,
+    words: &[&str],
+    source: &mut S,
+    sink: &mut K,
+    _steps: &mut Steps<L>,
+) -> Status
+    // The status with its details, but for a device's fault and want of memory.
+    ensures status { IfSome (S.left source.old) (λ bytes. HasStatus result (answer (map (λ word. word.now) words.entry.now) bytes).status) }
+    ensures usage { (result ≡ Status.Usage) ↔ (command_named (map (λ word. word.now) words.entry.now) ≡ None) }
+
+    // The report: whole where the command is done, a front of it where it could not be put, and nothing otherwise.
+    ensures report { OnDone result (IfSome (S.left source.old) (λ bytes. Adds (K.held sink.old) (K.held sink.new) (answer (map (λ word. word.now) words.entry.now) bytes).report)) }
+    ensures front { OnWriteFault result (IfSome (S.left source.old) (λ bytes. AddsFront (K.held sink.old) (K.held sink.new) (answer (map (λ word. word.now) words.entry.now) bytes).report)) }
+    ensures untouched { OnRefusal result (sink.new ≡ sink.old) }
+    ensures end { OnDone result (IfSome (S.left source.new) (λ rest. rest ≡ [])) }
+
+    // A fault is answered only where the device's count rose in this call.
+    ensures read_fault { OnReadFault result (Rose (S.faults source.old) (S.faults source.new)) }
+    ensures write_fault { OnWriteFault result (Rose (K.faults sink.old) (K.faults sink.new)) }
+
+    ensures steps { _steps.new ≡ _steps.old }
+{
+    let Some(command) = command_of(words) else {
+        return Status::Usage;
+    };
+    let bytes = match read_all(alloc, source, INPUT_LIMIT) {
+        Ok(bytes) => bytes,
+        Err(InputError::ReadFault) => return Status::ReadFault,
+        Err(InputError::TooLong) => return Status::TooLong,
+        Err(InputError::NoMemory) => return Status::NoMemory,
+    };
+    let report = match report_of(alloc, command, bytes.as_slice()) {
+        Ok(report) => report,
+        Err(refusal) => return refusal.into_status(),
+    };
+    match put_all(sink, report.as_slice()) {
+        Ok(()) => Status::Done,
+        Err(Failed) => Status::WriteFault,
+    }
+}

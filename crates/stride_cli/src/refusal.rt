@@ -1,0 +1,89 @@
+//! Why a command that has read its input made no report.
+ghost use Rattle.std.specs.Prelude.{◌≡◌};
+
+use assembler::AsmError;
+use stride_base::NoMemory;
+use stride_isa::CheckError;
+
+use crate::playing::PlayError;
+use crate::status::{ProgramFault, Status};
+
+/// Why a command that has read its input made no report.
+#[derive(Debug, Drop)]
+pub enum Refusal {
+    /// The input is no program with an order.
+    Program { fault: ProgramFault },
+    /// The member of the order at this place can take no turn.
+    NotEnabled { place: u32 },
+    /// Memory ran out.
+    NoMemory,
+}
+
+impl Refusal {
+    ghost use Rattle.stride_cli.specs.Answers.{status_of};
+
+    /// The status that tells of the refusal.
+    pub fn into_status(self) -> Status
+        ensures { result ≡ status_of self }
+    {
+        match self {
+            Refusal::Program { fault } => Status::Program { fault },
+            Refusal::NotEnabled { place } => Status::NotEnabled { place },
+            Refusal::NoMemory => Status::NoMemory,
+        }
+    }
+}
+
+impl From<AsmError> for Refusal {
+    ghost use Rattle.std.specs.Prelude.{◌≡◌};
+    ghost use Rattle.stride_cli.specs.Refusals.{of_text};
+
+    ghost from_gives = { λ error refusal. refusal ≡ of_text error };
+
+    fn from(error: AsmError) -> Refusal {
+        match error {
+            AsmError::Bad { kind, line } => Refusal::Program {
+                fault: ProgramFault::Text { kind, line },
+            },
+            AsmError::NoMemory => Refusal::NoMemory,
+        }
+    }
+}
+
+impl From<CheckError> for Refusal {
+    ghost use Rattle.std.specs.Prelude.{◌≡◌};
+    ghost use Rattle.stride_cli.specs.declared.refusal.Refusal.TheVariants as refusals;
+
+    ghost from_gives = { λ _ refusal. refusal ≡ refusals.NoMemory };
+
+    fn from(error: CheckError) -> Refusal {
+        match error {
+            CheckError::NoMemory => Refusal::NoMemory,
+        }
+    }
+}
+
+impl From<PlayError> for Refusal {
+    ghost use Rattle.std.specs.Prelude.{◌≡◌};
+    ghost use Rattle.stride_cli.specs.Refusals.{of_play};
+
+    ghost from_gives = { λ error refusal. refusal ≡ of_play error };
+
+    fn from(error: PlayError) -> Refusal {
+        match error {
+            PlayError::NotEnabled { place } => Refusal::NotEnabled { place },
+            PlayError::NoMemory => Refusal::NoMemory,
+        }
+    }
+}
+
+impl From<NoMemory> for Refusal {
+    ghost use Rattle.std.specs.Prelude.{◌≡◌};
+    ghost use Rattle.stride_cli.specs.declared.refusal.Refusal.TheVariants as refusals;
+
+    ghost from_gives = { λ _ refusal. refusal ≡ refusals.NoMemory };
+
+    fn from(_error: NoMemory) -> Refusal {
+        Refusal::NoMemory
+    }
+}
