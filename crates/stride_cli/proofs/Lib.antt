@@ -1,4 +1,5 @@
 pub mod Begins
+pub mod Followed
 pub mod Going
 pub mod Labels
 pub mod Playthrough

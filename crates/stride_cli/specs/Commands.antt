@@ -4,8 +4,12 @@ use Rattle.std.specs.Str.{bytes_eq}
 use Rattle.stride_cli.specs.declared.command.Command.{Command}
 use Rattle.stride_cli.specs.declared.command.Command.TheVariants.{Follow}
 
+-- the command of this name
+abbrev pub command_with_name : List ℕ → Option Command
+command_with_name name = if bytes_eq name (codes "follow") then Some Follow else None
+
 -- the command that the words name: one word, which is its name
 abbrev pub command_named : List (List ℕ) → Option Command
 command_named [] = None
-command_named (word ∷ []) = if bytes_eq word (codes "follow") then Some Follow else None
-command_named (word ∷ next ∷ words) = None
+command_named (name ∷ []) = command_with_name name
+command_named (name ∷ next ∷ words) = None

@@ -1,6 +1,6 @@
 //! The words of the command line.
 ghost use Rattle.std.specs.Prelude.{◌≡◌, map};
-ghost use Rattle.stride_cli.specs.Commands.{command_named};
+ghost use Rattle.stride_cli.specs.Commands.{command_named, command_with_name};
 
 /// What the program can be told to do.
 #[derive(Clone, Copy, Debug, PartialEq, Eq)]
@@ -9,12 +9,22 @@ pub enum Command {
     Follow,
 }
 
+fn command_called(name: &str) -> Option<Command>
+    ensures { result ≡ command_with_name name.now }
+{
+    if name == "follow" {
+        Some(Command::Follow)
+    } else {
+        None
+    }
+}
+
 /// The command that the words name, or `None` where they name none.
 pub fn command_of(words: &[&str]) -> Option<Command>
-    ensures { result ≡ command_named (map (λ word. word.now) words.now) }
+    ensures { result ≡ command_named (map (λ word. word.now) words.entry.now) }
 {
     match words {
-        ["follow"] => Some(Command::Follow),
+        [name] => command_called(name),
         _ => None,
     }
 }
