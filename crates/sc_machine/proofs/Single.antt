@@ -61,11 +61,11 @@ first_local p fuel t n r s m rest e there is counted stepped may =
     let k = (local_steps p fuel t n s').made - s'.made in
     let count : (local_steps p fuel t n s').made - s.made ≡ suc k = omega (arith, local_steps-made-le p fuel t n s') in
     let enabled : can p t m ≡ true =
-      ap (λ b. b && may_make (now p t (thread_at m t)) m.holders) (lt-ltb t (length m.threads) there)
-      ∙ ap (λ x. may_make (now p t x) m.holders) is ∙ ap (λ x. may_make x m.holders) e ∙ may in
+    ap (λ b. b && may_make (now p t (thread_at m t)) m.holders) (lt-ltb t (length m.threads) there)
+    ∙ ap (λ x. may_make (now p t x) m.holders) is ∙ ap (λ x. may_make x m.holders) e ∙ may in
     let step : sc_step p fuel t m ≡ m' =
-      ap (λ x. stepped_by p fuel t (now p t x) m) is ∙ ap (λ x. stepped_by p fuel t x m) e ∙ stepped
-      ∙ ap (λ x. with_thread t (moved fuel r x) lines m) is in
+    ap (λ x. stepped_by p fuel t (now p t x) m) is ∙ ap (λ x. stepped_by p fuel t x m) e ∙ stepped
+    ∙ ap (λ x. with_thread t (moved fuel r x) lines m) is in
     let there' : t < length m'.threads = omega (arith, length-set m.threads t s') in
     ap (λ c. sc_run p fuel (replicate c t) m) count
     ∙ ap (λ b. cond b (sc_run p fuel (replicate k t) (sc_step p fuel t m)) None) enabled

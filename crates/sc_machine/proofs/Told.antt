@@ -39,9 +39,9 @@ told_after threads lines u s bytes there out told t = ⊎_elim own other (cases_
   where
     own : t ≡ u → (slice_index_or (slice_set threads u s) t start_thread).out ≡ bytes_of t (lines ++ printed_line u bytes)
     own e = subst (λ (x : ℕ). (slice_index_or (slice_set threads u s) x start_thread).out ≡ bytes_of x (lines ++ printed_line u bytes)) (sym e) (
-      ap (λ (x : Thread). x.out) (get_or-set_same threads u s start_thread there) ∙ out
-      ∙ ap (λ xs. xs ++ bytes) (told u) ∙ sym (ap (λ xs. bytes_of u lines ++ xs) (bytes_of-own u bytes))
-      ∙ sym (bytes_of-append u lines (printed_line u bytes)))
+        ap (λ (x : Thread). x.out) (get_or-set_same threads u s start_thread there) ∙ out
+        ∙ ap (λ xs. xs ++ bytes) (told u) ∙ sym (ap (λ xs. bytes_of u lines ++ xs) (bytes_of-own u bytes))
+        ∙ sym (bytes_of-append u lines (printed_line u bytes)))
 
     other : (t ≡ u → ⊥) → (slice_index_or (slice_set threads u s) t start_thread).out ≡ bytes_of t (lines ++ printed_line u bytes)
     other apart =
@@ -98,5 +98,5 @@ outputs-told p fuel schedule m e =
     let long : length outs ≡ length p.threads = length-map before.threads (λ (s : Thread). s.out) ∙ told.1 ∙ length-map p.threads (λ code. start_thread) in
     ap outputs (sym run.2) ∙ outputs-finished before.threads
     ∙ fill_by_all (λ t. bytes_of t before.transcript) outs (length p.threads) [] long (λ k within.
-      get_or-map (λ (s : Thread). s.out) before.threads k start_thread [] (omega (arith, told.1, length-map p.threads (λ code. start_thread))) ∙ told.0 k)
+    get_or-map (λ (s : Thread). s.out) before.threads k start_thread [] (omega (arith, told.1, length-map p.threads (λ code. start_thread))) ∙ told.0 k)
     ∙ ap (λ (x : Machine). map (λ t. bytes_of t x.transcript) (thread_numbers p)) run.2

@@ -1,7 +1,6 @@
 -- What holds of every run of the machine, whatever the program is.
-use Rattle.std.specs.Prelude.{◌≡◌, ℕ, ◌<◌, List, ◌++◌, length, map, Option, Some, None}
+use Rattle.std.specs.Prelude.{◌≡◌, ℕ, ◌<◌, true, List, ◌++◌, length, map, Option, Some, None}
 use Rattle.std.specs.List.{flat_map}
-use Rattle.std.specs.Prelude.{true}
 use Rattle.stride_isa.specs.Listing.{Listing, start_of}
 use Rattle.sc_machine.specs.declared.stop.Stop.{Stop}
 use Rattle.sc_machine.specs.ThreadStep.{Thread, Stands, start_thread, now, settled, stop_of, answered}
@@ -23,7 +22,7 @@ StartsSettle = (p : Listing) (fuel : ℕ) → ready p fuel ≡ record {
   threads = map (λ t. settled p fuel t start_thread) (thread_numbers p);
   cells = start_of p;
   holders = λ monitor. None;
-  transcript = flat_map (λ t. settled_lines p fuel t start_thread) (thread_numbers p)
+  transcript = flat_map (λ t. settled_lines p fuel t start_thread) (thread_numbers p);
 }
 
 -- a thread that stands is enabled where it may pass its stop, and its turn is one equation by that stop

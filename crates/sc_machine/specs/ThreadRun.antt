@@ -33,7 +33,7 @@ start_run p thread fuel = record {
   locals = start_thread.locals;
   held = start_thread.held;
   made = start_thread.made;
-  ended = start_thread.ended
+  ended = start_thread.ended;
 }
 
 -- the shared instruction, or the end, at which the run stands

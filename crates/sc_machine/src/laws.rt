@@ -4,41 +4,34 @@ ghost use Rattle.sc_machine.specs.Laws.{TurnsAreSteps, RefusedWhereStuck, Starts
 /// The single steps of a schedule do what its whole turns do, behind the local starts.
 pub fn turns_are_steps()
     ensures { TurnsAreSteps }
-{
-}
+{}
 
 /// A list is refused at the first member that is not enabled when its turn comes.
 pub fn refused_where_stuck()
     ensures { RefusedWhereStuck }
-{
-}
+{}
 
 /// After the local starts each thread has settled by itself.
 pub fn starts_settle()
     ensures { StartsSettle }
-{
-}
+{}
 
 /// The turn of a thread that stands is one equation by its stop.
 pub fn turn_by_stop()
     ensures { TurnByStop }
-{
-}
+{}
 
 /// A thread settles at a shared instruction or at its end.
 pub fn settled_stands()
     ensures { SettledStands }
-{
-}
+{}
 
 /// What a thread prints until it settles is its lines of the transcript.
 pub fn settled_prints()
     ensures { SettledPrints }
-{
-}
+{}
 
 /// The output of each thread of a run is its lines of the transcript.
 pub fn outputs_are_lines()
     ensures { OutputsAreLines }
-{
-}
+{}
