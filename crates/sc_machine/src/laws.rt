@@ -1,5 +1,5 @@
 //! Laws of the machine, over its definitions alone. Each is the contract of a function that does nothing.
-ghost use Rattle.sc_machine.specs.Laws.{TurnsAreSteps, RefusedWhereStuck, StartsSettle, TurnByStop, SettledStands, SettledPrints, OutputsAreLines};
+ghost use Rattle.sc_machine.specs.Laws.{TurnsAreSteps, RefusedWhereStuck, MadeAlongTurns, RefusedAlongTurns, StartsSettle, TurnByStop, SettledStands, SettledPrints, OutputsAreLines};
 
 /// The single steps of a schedule do what its whole turns do, behind the local starts.
 pub fn turns_are_steps()
@@ -10,6 +10,13 @@ pub fn turns_are_steps()
 pub fn refused_where_stuck()
     ensures { RefusedWhereStuck }
 {}
+
+/// A schedule's run is found along its turns, and so is the place at which a list is refused.
+pub fn replay_along_turns()
+    ensures made { MadeAlongTurns }
+    ensures refused { RefusedAlongTurns }
+{
+}
 
 /// After the local starts each thread has settled by itself.
 pub fn starts_settle()
