@@ -1,12 +1,10 @@
 -- Whole turns and their single steps.
 use borrow.Author.Tests.{lt-ltb, ltb-true}
-use Rattle.std.proofs.Common.{◌≡◌, ℕ, zero, suc, ◌+◌, ◌-◌, ◌<◌, ◌≤◌, Bool, true, false, cond, ◌&&◌, nat_lt, List, [], ◌∷◌, ◌++◌, length, replicate, slice_index_or, slice_set, Option, Some, None, refl, sym, ◌∙◌, ap, subst, append_assoc, append-nil, length-set, arith}
+use Rattle.std.proofs.Common.{◌≡◌, ℕ, zero, suc, ◌+◌, ◌-◌, ◌<◌, ◌≤◌, Bool, true, false, cond, ◌&&◌, nat_lt, List, [], ◌∷◌, ◌++◌, length, replicate, slice_set, Option, Some, None, refl, sym, ◌∙◌, ap, append_assoc, append-nil, length-set, arith}
 use Rattle.std.proofs.lemmas.List.{get_or-set_same, set-set, set-get_or, length-map}
 use Rattle.std.specs.List.{range_with_len}
 use Rattle.std.specs.Option.{option_and_then}
 use Rattle.stride_isa.specs.Listing.{Listing}
-use Rattle.sc_machine.specs.declared.end.End.{End}
-use Rattle.sc_machine.specs.declared.stop.Stop.{Stop}
 use Rattle.sc_machine.specs.ThreadStep.{Thread, Row, Goes, Ends, Stands, start_thread, printed_by, now, moved, local_step, local_steps, settled}
 use Rattle.sc_machine.specs.Machine.{Machine, Printed, start_machine, thread_at, may_make, can, printed_line, with_thread, stepped_by, moved_by, sc_step, sc_run}
 use Rattle.sc_machine.specs.Schedule.{printed_in, settled_lines, settle, turn, turns, started, ready, locals_of, expand_starts, expand, whole, run_of}

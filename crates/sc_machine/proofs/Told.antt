@@ -1,20 +1,16 @@
 -- Each thread's output is its lines of the transcript.
 use borrow.Author.Tests.{eq-eqb, ne_eqb}
-use Rattle.std.proofs.Common.{◌≡◌, ◌≢◌, ℕ, zero, suc, ⊎_elim, ◌==◌, ◌<◌, Bool, true, false, cond, ◌⊎◌, inl, inr, List, [], ◌∷◌, ◌++◌, length, map, slice_index_or, slice_set, Option, Some, None, refl, sym, ◌∙◌, ap, subst, append-nil, arith}
+use Rattle.std.proofs.Common.{◌≡◌, ◌≢◌, ℕ, zero, suc, ⊎_elim, ◌==◌, ◌<◌, Bool, true, false, cond, List, [], ◌∷◌, ◌++◌, length, map, slice_index_or, slice_set, Option, Some, None, refl, sym, ◌∙◌, ap, subst, append-nil, arith}
 use Rattle.std.proofs.lemmas.Bool.{cases_eq}
 use Rattle.std.proofs.lemmas.Grind.{flat_map-append}
 use Rattle.std.proofs.lemmas.List.{get_or-set_same, get_or-set_other, get_or-map, length-map}
 use Rattle.std.proofs.lemmas.List.FromFn.{fill_by_all}
-use Rattle.std.specs.List.{flat_map, range_with_len}
 use Rattle.std.specs.Option.{option_map}
 use Rattle.stride_isa.specs.Listing.{Listing}
-use Rattle.sc_machine.specs.declared.end.End.{End}
-use Rattle.sc_machine.specs.declared.stop.Stop.{Stop}
-use Rattle.sc_machine.specs.ThreadStep.{Thread, Row, Goes, Ends, Stands, start_thread, printed_by, now, moved}
-use Rattle.sc_machine.specs.Machine.{Machine, Printed, start_machine, thread_at, can, printed_line, with_thread, stepped_by, sc_step, sc_run}
+use Rattle.sc_machine.specs.ThreadStep.{Thread, Row, Goes, Ends, Stands, start_thread, now}
+use Rattle.sc_machine.specs.Machine.{Machine, Printed, start_machine, thread_at, can, printed_line, stepped_by, sc_step, sc_run}
 use Rattle.sc_machine.specs.Schedule.{whole, run_of, finished, stopped, replayed, outputs, thread_numbers}
 use Rattle.sc_machine.specs.Transcript.{bytes_of}
-use Rattle.sc_machine.proofs.Output.{moved-out}
 use Rattle.sc_machine.proofs.Single.{there_from_can, length-sc_step}
 
 -- each thread's output is its lines of the transcript

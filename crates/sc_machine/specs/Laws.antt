@@ -1,9 +1,9 @@
 -- What holds of every run of the machine, whatever the program is.
-use Rattle.std.specs.Prelude.{◌≡◌, ℕ, ◌<◌, true, false, List, ◌++◌, length, map, take, slice_index, Option, Some, None}
+use Rattle.std.specs.Prelude.{◌≡◌, ℕ, ◌<◌, true, false, List, ◌++◌, length, map, take, slice_index, Some, None}
 use Rattle.std.specs.List.{flat_map}
 use Rattle.stride_isa.specs.Listing.{Listing, start_of}
 use Rattle.sc_machine.specs.declared.stop.Stop.{Stop}
-use Rattle.sc_machine.specs.ThreadStep.{Thread, Stands, start_thread, now, settled, stop_of, answered}
+use Rattle.sc_machine.specs.ThreadStep.{Thread, Stands, start_thread, now, settled, stop_of}
 use Rattle.sc_machine.specs.Machine.{Machine, thread_at, may_pass, can}
 use Rattle.sc_machine.specs.Schedule.{settled_lines, turn, turned, turns, stuck_place, ready, thread_numbers, run_of, refused_place, finished, replayed, outputs}
 use Rattle.sc_machine.specs.Transcript.{transcript_bytes, line_bytes, bytes_of, tagged}

@@ -1,6 +1,6 @@
 -- What contracts see of a `ThreadRun`: a thread's state without its output, which lies with the caller.
-use Rattle.std.specs.Prelude.{◌≡◌, ℕ, ◌<◌, List, [], Bool, Option, Some, None, length}
-use Rattle.stride_isa.specs.Listing.{Listing, code_of, cell_count}
+use Rattle.std.specs.Prelude.{◌≡◌, ℕ, ◌<◌, List, [], Bool, Option, Some, None}
+use Rattle.stride_isa.specs.Listing.{Listing, cell_count}
 use Rattle.sc_machine.specs.declared.end.End.{End}
 use Rattle.sc_machine.specs.declared.stop.Stop.{Stop}
 use Rattle.sc_machine.specs.declared.stop.Stop.TheVariants.{Read, Write, Ended}

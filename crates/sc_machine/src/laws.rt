@@ -15,8 +15,7 @@ pub fn refused_where_stuck()
 pub fn replay_along_turns()
     ensures made { MadeAlongTurns }
     ensures refused { RefusedAlongTurns }
-{
-}
+{}
 
 /// After the local starts each thread has settled by itself.
 pub fn starts_settle()

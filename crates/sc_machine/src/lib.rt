@@ -17,8 +17,8 @@ mod trap;
 
 pub use end::End;
 pub use laws::{
-    outputs_are_lines, refused_where_stuck, replay_along_turns, settled_prints, settled_stands, starts_settle,
-    turn_by_stop, turns_are_steps,
+    outputs_are_lines, refused_where_stuck, replay_along_turns, settled_prints, settled_stands,
+    starts_settle, turn_by_stop, turns_are_steps,
 };
 pub use stop::Stop;
 pub use thread_run::ThreadRun;

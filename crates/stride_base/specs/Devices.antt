@@ -22,6 +22,10 @@ pub record AddsFront (old new : Option (List ℕ)) (piece : List ℕ) : Type 0 w
   pub parts : piece ≡ front ++ rest
   pub added : Adds old new front
 
+-- one more, up to the last value of a `u64`
+abbrev pub raised : ℕ → ℕ
+raised count = min (count + 1) (2 ^ 64 - 1)
+
 -- the count of faults rose, or stands at its last value
 abbrev pub Rose : ℕ → ℕ → Type 0
-Rose old new = min (old + 1) (2 ^ 64 - 1) ≤ new
+Rose old new = raised old ≤ new

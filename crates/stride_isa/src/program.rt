@@ -176,6 +176,7 @@ impl Program {
     pub fn add_op(&mut self, op: Op) -> Result<(), AddError>
         requires { 0 < length self.old.threads }
         ensures added { OnOk result (self.new ≡ with_op self.old op) }
+        ensures threads { length self.new.threads ≡ length self.old.threads }
         ensures refused { RefusesBy false (nat_le 65536 (instruction_count self.old.threads)) result }
         ensures err { OnErr result (self.new ≡ self.old) }
     {

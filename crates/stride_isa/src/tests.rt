@@ -67,9 +67,12 @@ fn straight_code_is_checked(rt: HostRuntime) -> Result<(), Fail> {
     let mut program = Program::new(rt.alloc());
     program.add_cells(variable(b"x", 7).ok_or("a name")?)?;
     program.add_thread()?;
-    for op in [Op::Push(3), Op::Write(0), Op::Read(0), Op::Print, Op::Halt] {
-        program.add_op(op)?;
-    }
+    program.add_op(Op::Push(3))?;
+    program.add_op(Op::Write(0))?;
+    program.add_op(Op::Read(0))?;
+    program.add_op(Op::Print)?;
+    assert!(rt; !program.is_straight());
+    program.add_op(Op::Halt)?;
     assert!(rt; program.is_straight());
     let checked = check(rt.alloc(), program)?;
     assert_eq!(rt; checked.threads(), 1);

@@ -1,0 +1,6 @@
+use Rattle.std.proofs.lemmas.Map.Text.{btree_map_updates_str}
+use Rattle.assembler.proofs.names.Names.insert.Goals as goal
+
+pub returns : goal.returns
+returns c =
+    btree_map_updates_str c.args.name.now c.args.self.now.positions c.insert.new.self _ c.in_ok-insert.ensures.updates

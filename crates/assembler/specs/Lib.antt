@@ -1,0 +1,11 @@
+pub mod Answers
+pub mod Forms
+pub mod Inputs
+pub mod Lines
+pub mod Naming
+pub mod Numbers
+pub mod Orders
+pub mod Programs
+pub mod Seen
+pub mod Splits
+pub mod Words

@@ -1,0 +1,3 @@
+pub mod ListedCalls
+pub mod SinkLemmas
+pub mod SourceLemmas

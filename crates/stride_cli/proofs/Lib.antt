@@ -1,0 +1,5 @@
+pub mod Begins
+pub mod Going
+pub mod Labels
+pub mod Playthrough
+pub mod Turning

@@ -1,0 +1,47 @@
+-- The loop over a schedule.
+use Rattle.std.proofs.Common.{◌≡◌, ℕ, ◌+◌, ◌<◌, ◌∙◌, Bool, true, false, if◌then◌else◌, List, [], ◌∷◌, ◌++◌, length, take, refl, sym, ap, arith, slice_index, Option, Some, None}
+use Rattle.std.proofs.lemmas.List.{take_more}
+use Rattle.stride_isa.specs.Listing.{Listing}
+use Rattle.sc_machine.specs.Machine.{Machine, can}
+use Rattle.sc_machine.specs.Schedule.{turn, turns, ready}
+use Rattle.sc_machine.proofs.Refused.{no_schedule, refused_at}
+use Rattle.sc_machine.proofs.Turns.{turns-append}
+use Rattle.stride_cli.specs.declared.table.Table.{Table}
+use Rattle.stride_cli.specs.Playing.{IsTable, Shows, SameGame, PlayedTo, RefusedAt}
+
+pub nothing_played : (table : Table) → IsTable table → Shows table (ready table.program.now table.fuel) → PlayedTo table table []
+unfolding turns
+nothing_played table is shows = record { table = is; game = record { program = refl; fuel = refl }; machine = ready table.program.now table.fuel; reached = refl; shows = shows }
+
+-- whether a thread can take its turn, by the program that the table began with
+can_there : (first here : Table) (t : ℕ) (m : Machine) (b : Bool) → SameGame first here → can here.program.now t m ≡ b → can first.program.now t m ≡ b
+can_there first here t m b game h = sym (ap (λ program. can program.now t m) game.program) ∙ h
+
+one_turn : (p : Listing) (fuel t : ℕ) (m : Machine) → can p t m ≡ true → turns p fuel (t ∷ []) m ≡ Some (turn p fuel t m)
+unfolding turns
+one_turn p fuel t m h = ap (λ b. if b then Some (turn p fuel t m) else None) h
+
+pub refused : (first here : Table) (schedule : List ℕ) (place : ℕ) → place < length schedule → (inv : PlayedTo first here (take place schedule)) → can here.program.now (slice_index schedule place) inv.machine ≡ false → RefusedAt first.program.now first.fuel schedule place
+refused first here schedule place lt inv off =
+    let no = can_there first here (slice_index schedule place) inv.machine false inv.game off in
+    record {
+      no_run = no_schedule first.program.now first.fuel schedule place inv.machine inv.reached lt no;
+      first = refused_at first.program.now first.fuel schedule place inv.machine inv.reached lt no
+    }
+
+pub one_more_played : (first here next : Table) (schedule : List ℕ) (place : ℕ) → place < length schedule → (inv : PlayedTo first here (take place schedule)) → IsTable next → SameGame here next → can here.program.now (slice_index schedule place) inv.machine ≡ true → Shows next (turn here.program.now here.fuel (slice_index schedule place) inv.machine) → PlayedTo first next (take (place + 1) schedule)
+one_more_played first here next schedule place lt inv is game on shows =
+    let t : ℕ = slice_index schedule place in
+    let may = can_there first here t inv.machine true inv.game on in
+    let begin : Machine = ready first.program.now first.fuel in
+    record {
+      table = is;
+      game = record { program = game.program ∙ inv.game.program; fuel = game.fuel ∙ inv.game.fuel };
+      machine = turn here.program.now here.fuel t inv.machine;
+      reached = ap (λ ts. turns first.program.now first.fuel ts begin) (take_more schedule place 0 lt)
+          ∙ turns-append first.program.now first.fuel (take place schedule) (t ∷ []) begin inv.machine inv.reached
+          ∙ one_turn first.program.now first.fuel t inv.machine may
+          ∙ sym (ap (λ program. Some (turn program.now first.fuel t inv.machine)) inv.game.program)
+          ∙ sym (ap (λ fuel. Some (turn here.program.now fuel t inv.machine)) inv.game.fuel);
+      shows = shows
+    }

@@ -1,0 +1,143 @@
+-- A turn at the table is a turn of the machine that it shows.
+use Rattle.std.proofs.Common.{◌≡◌, ◌≢◌, ℕ, ◌+◌, ◌-◌, ◌<◌, ◌≤◌, ◌∙◌, ◌++◌, ◌⊎◌, inl, inr, Bool, true, false, if◌then◌else◌, List, length, map, refl, sym, ap, subst, arith, get_or, set, Vec, slice_index, Option, Some}
+use Rattle.std.specs.Vec.{with_item}
+use Rattle.std.specs.List.{slice_get, slice_index_or, slice_set}
+use Rattle.std.proofs.lemmas.Option.{get_or_from_slice_get, slice_get_within}
+use Rattle.std.proofs.lemmas.Bool.Decides.{eqb_tells}
+use Rattle.std.proofs.lemmas.List.{get_or-map, get_or-set_same, get_or-set_other, length-set, length-map, map-set}
+use Rattle.stride_base.specs.Listed.{Listed}
+use Rattle.stride_isa.specs.Listing.{Listing, cell_count}
+use Rattle.sc_machine.specs.declared.stop.Stop.{Stop}
+use Rattle.sc_machine.specs.declared.stop.Stop.TheVariants.{Read, Write, Ended}
+use Rattle.sc_machine.specs.ThreadStep.{Thread, Stands, start_thread, now, settled, answered}
+use Rattle.sc_machine.specs.ThreadRun.{NamesCell, IsShared}
+use Rattle.sc_machine.specs.Machine.{Machine, thread_at, may_pass, can, put, word_read, cells_after, holders_after}
+use Rattle.sc_machine.specs.Schedule.{settled_lines, turn}
+use Rattle.sc_machine.specs.Transcript.{transcript_bytes}
+use Rattle.sc_machine.proofs.PrintedLines.{transcript-append}
+use Rattle.sc_machine.proofs.Turns.{turn-standing, can-standing}
+use Rattle.stride_cli.specs.declared.player.Player.{Player}
+use Rattle.stride_cli.specs.declared.table.Table.{Table}
+use Rattle.stride_cli.specs.Playing.{IsPlayer, IsTable, Shows, WentOn, cells_in, thread_of, word_in}
+
+-- the thread of the machine that a player plays
+shown_thread : (table : Table) (m : Machine) (t : ℕ) (d : Player) → Shows table m → t < length table.players.items → d ≡ get_or table.players.items t d → thread_at m t ≡ thread_of d
+shown_thread table m t d shows lt e =
+    ap (λ threads. get_or threads t start_thread) shows.threads
+    ∙ get_or-map thread_of table.players.items t d start_thread lt
+    ∙ ap thread_of (sym e)
+
+word_shown : (table : Table) (m : Machine) (stop : Stop) → Shows table m → NamesCell table.program.now stop → word_in stop table.cells ≡ word_read stop m.cells
+word_shown table m (Read cell) shows named = shows.cells cell named.0
+word_shown table m (Write cell value) shows named = refl
+word_shown table m (Ended end) shows named = refl
+
+cells_long : (stop : Stop) (cells : List ℕ) → length (cells_in stop cells) ≡ length cells
+cells_long (Read cell) cells = refl
+cells_long (Write cell value) cells = length-set cells cell value
+cells_long (Ended end) cells = refl
+
+put_shown : (cells : List ℕ) (map : ℕ → ℕ) (at value count : ℕ) → at < count → count ≤ length cells → ((cell : ℕ) → cell < count → slice_index cells cell ≡ map cell) → (cell : ℕ) → cell < count → slice_index (set cells at value) cell ≡ put map at value cell
+put_shown cells map at value count inside room shown cell lt = elim (eqb_tells cell at) [
+  | inl same ↦
+    let e : cell ≡ at = same.1 in
+    ap (slice_index (set cells at value)) e ∙ get_or-set_same cells at value 0 (omega arith) ∙ ap (λ b. if b then value else map cell) (sym same.0)
+  | inr other ↦
+    let differ : cell ≢ at = other.1 in
+    get_or-set_other cells at cell value 0 differ ∙ shown cell lt ∙ ap (λ b. if b then value else map cell) (sym other.0)
+]
+
+cells_shown : (table : Table) (m : Machine) (stop : Stop) → IsTable table → Shows table m → NamesCell table.program.now stop → (cell : ℕ) → cell < cell_count table.program.now.decls → slice_index (cells_in stop table.cells) cell ≡ cells_after stop m.cells cell
+cells_shown table m (Read at) is shows named cell lt = shows.cells cell lt
+cells_shown table m (Write at value) is shows named cell lt =
+    put_shown table.cells m.cells at value (cell_count table.program.now.decls) named.0 is.room shows.cells cell lt
+cells_shown table m (Ended end) is shows named cell lt = shows.cells cell lt
+
+-- the table after a player went on
+abbrev pub table_after : Table → ℕ → Player → List ℕ → Listed ℕ → Table
+table_after table t player cells transcript =
+    record { program = table.program; fuel = table.fuel; players = with_item table.players t player; cells = cells; transcript = transcript }
+
+module _ (table : Table) (t : ℕ) (old new : Player) (transcript : Listed ℕ) where
+  abbrev p : Listing
+  p = table.program.now
+  abbrev after : Table
+  after = table_after table t new (cells_in old.stop table.cells) transcript
+  abbrev Went : Type 0
+  Went = WentOn p table.fuel t (word_in old.stop table.cells) old new table.transcript.items transcript.items
+
+  pub still_table : IsTable table → t < length table.players.items → Went → IsTable after
+  still_table is lt went = record {
+    count = length-set table.players.items t new ∙ is.count;
+    room = omega (arith, is.room, cells_long old.stop table.cells);
+    each = λ k d below. elim (eqb_tells k t) [
+      | inl same ↦
+        let e : k ≡ t = same.1 in
+        let here : get_or (set table.players.items t new) k d ≡ new = ap (λ n. get_or (set table.players.items t new) n d) e ∙ get_or-set_same table.players.items t new d lt in
+        subst (λ (n : ℕ). IsPlayer p table.fuel n (get_or (set table.players.items t new) k d)) (sym e) (subst (λ (player : Player). IsPlayer p table.fuel t player) (sym here) went.player)
+      | inr other ↦
+        let differ : k ≢ t = other.1 in
+        let there : get_or (set table.players.items t new) k d ≡ get_or table.players.items k d = get_or-set_other table.players.items t k new d differ in
+        subst (λ (player : Player). IsPlayer p table.fuel k player) (sym there) (is.each k d (omega (arith, length-set table.players.items t new)))
+    ]
+  }
+
+  pub turn_taken : (m : Machine) → IsTable table → t < length table.players.items → old ≡ get_or table.players.items t old → IsShared old.stop → Went → Shows table m → (can p t m ≡ true) × Shows after (turn p table.fuel t m)
+  turn_taken m is lt whose shared went shows =
+      let player : IsPlayer p table.fuel t old = subst (λ (player : Player). IsPlayer p table.fuel t player) (sym whose) (is.each t old lt) in
+      let thread = shown_thread table m t old shows lt whose in
+      let there : t < length m.threads = omega (arith, ap length shows.threads, length-map table.players.items thread_of) in
+      let stands : now p t (thread_at m t) ≡ Stands old.stop = ap (λ s. now p t s) thread ∙ player.stands in
+      let turned = turn-standing p table.fuel t m old.stop there stands in
+      let word = word_shown table m old.stop shows player.cell in
+      let answer : answered p table.fuel t (word_in old.stop table.cells) (thread_of old) ≡ answered p table.fuel t (word_read old.stop m.cells) (thread_at m t) =
+        ap (λ w. answered p table.fuel t w (thread_of old)) word ∙ ap (λ s. answered p table.fuel t (word_read old.stop m.cells) s) (sym thread) in
+      let threads = ap (λ (k : Machine). k.threads) turned in
+      let cells = ap (λ (k : Machine). k.cells) turned in
+      let lines = ap (λ (k : Machine). k.transcript) turned in
+      (can-standing p t m old.stop there stands ∙ passes old.stop shared,
+        record {
+          threads = threads
+              ∙ ap (λ xs. set xs t (settled p table.fuel t (answered p table.fuel t (word_read old.stop m.cells) (thread_at m t)))) shows.threads
+              ∙ ap (λ s. set (map thread_of table.players.items) t (settled p table.fuel t s)) (sym answer)
+              ∙ ap (λ s. set (map thread_of table.players.items) t s) (sym went.settles)
+              ∙ sym (map-set thread_of table.players.items t new);
+          cells = λ cell below. cells_shown table m old.stop is shows player.cell cell below ∙ ap (λ f. f cell) (sym cells);
+          transcript = went.printed
+              ∙ ap (λ xs. xs ++ transcript_bytes (settled_lines p table.fuel t (answered p table.fuel t (word_in old.stop table.cells) (thread_of old)))) shows.transcript
+              ∙ ap (λ s. transcript_bytes m.transcript ++ transcript_bytes (settled_lines p table.fuel t s)) answer
+              ∙ sym (transcript-append m.transcript (settled_lines p table.fuel t (answered p table.fuel t (word_read old.stop m.cells) (thread_at m t))))
+              ∙ ap transcript_bytes (sym lines)
+        })
+    where
+      passes : (stop : Stop) → IsShared stop → may_pass stop m.holders ≡ true
+      passes (Read cell) shared = refl
+      passes (Write cell value) shared = refl
+      passes (Ended end) shared = absurd shared
+
+module _ (table : Table) (t : ℕ) (old new : Player) (transcript : Listed ℕ) (stop : Stop) (word : ℕ) where
+  abbrev Answered : Type 0
+  Answered = WentOn old.run.program old.run.fuel old.run.thread word old new table.transcript.items transcript.items
+  abbrev table' : Table
+  table' = table_after table t new (cells_in stop table.cells) transcript
+
+  player_at : IsTable table → slice_get table.players.items t ≡ Some old → IsPlayer table.program.now table.fuel t old
+  player_at is found =
+      subst (λ (player : Player). IsPlayer table.program.now table.fuel t player) (get_or_from_slice_get table.players.items t old old found) (is.each t old (slice_get_within table.players.items t old found))
+
+  went_at : IsPlayer table.program.now table.fuel t old → old.stop ≡ stop → word ≡ word_in stop table.cells → Answered → WentOn table.program.now table.fuel t (word_in old.stop table.cells) old new table.transcript.items transcript.items
+  went_at player e w went =
+      subst (λ (n : ℕ). WentOn table.program.now table.fuel t n old new table.transcript.items transcript.items) (w ∙ ap (λ s. word_in s table.cells) (sym e))
+      (subst (λ (n : ℕ). WentOn table.program.now table.fuel n word old new table.transcript.items transcript.items) player.thread
+      (subst (λ (n : ℕ). WentOn table.program.now n old.run.thread word old new table.transcript.items transcript.items) player.fuel_is
+      (subst (λ (q : Listing). WentOn q old.run.fuel old.run.thread word old new table.transcript.items transcript.items) player.program went)))
+
+  pub table_kept : IsTable table → slice_get table.players.items t ≡ Some old → old.stop ≡ stop → word ≡ word_in stop table.cells → Answered → IsTable table'
+  table_kept is found e w went =
+      subst (λ (s : Stop). IsTable (table_after table t new (cells_in s table.cells) transcript)) e
+      (still_table table t old new transcript is (slice_get_within table.players.items t old found) (went_at (player_at is found) e w went))
+
+  pub turn_shown : IsTable table → slice_get table.players.items t ≡ Some old → old.stop ≡ stop → IsShared stop → word ≡ word_in stop table.cells → Answered → (m : Machine) → Shows table m → (can table.program.now t m ≡ true) × Shows table' (turn table.program.now table.fuel t m)
+  turn_shown is found e shared w went m shows =
+      let taken = turn_taken table t old new transcript m is (slice_get_within table.players.items t old found) (sym (get_or_from_slice_get table.players.items t old old found)) (subst IsShared (sym e) shared) (went_at (player_at is found) e w went) shows in
+      (taken.0, subst (λ (s : Stop). Shows (table_after table t new (cells_in s table.cells) transcript) (turn table.program.now table.fuel t m)) e taken.1)

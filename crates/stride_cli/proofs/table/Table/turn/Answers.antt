@@ -1,0 +1,21 @@
+use Rattle.std.proofs.Common.{refl, slice_index}
+use Rattle.std.proofs.lemmas.Option.{slice_get_read}
+use Rattle.sc_machine.specs.declared.stop.Stop.TheVariants.{Read, Write}
+use Rattle.stride_cli.proofs.Turning.{table_kept, turn_shown}
+use Rattle.stride_cli.proofs.table.Table.turn.Goals as goal
+
+pub returns-in_ok-answer-in-Read-clause-table : goal.returns-in_ok-answer-in-Read-clause-table
+returns-in_ok-answer-in-Read-clause-table c =
+    (table_kept c.args.self.now c.args.thread c.in-Some.player.now c.answer.new.self c.answer.new.transcript (Read c.in-Read.cell) (slice_index c.args.self.now.cells c.in-Read.cell) c.requires (slice_get_read c.args.self.now.players.items _ c.args.thread c.in-Some.player.now refl c.in-Some.ensures.item.3.0 c.in-Some.ensures.value) c.in-Read.is refl c.in_ok-answer-in-Read.ensures.went_on, record { program = refl; fuel = refl })
+
+pub returns-in_ok-answer-in-Read-clause-taken : goal.returns-in_ok-answer-in-Read-clause-taken
+returns-in_ok-answer-in-Read-clause-taken c = λ m shows.
+    turn_shown c.args.self.now c.args.thread c.in-Some.player.now c.answer.new.self c.answer.new.transcript (Read c.in-Read.cell) (slice_index c.args.self.now.cells c.in-Read.cell) c.requires (slice_get_read c.args.self.now.players.items _ c.args.thread c.in-Some.player.now refl c.in-Some.ensures.item.3.0 c.in-Some.ensures.value) c.in-Read.is tt refl c.in_ok-answer-in-Read.ensures.went_on m shows
+
+pub returns-in_ok-answer-in-Write-clause-table : goal.returns-in_ok-answer-in-Write-clause-table
+returns-in_ok-answer-in-Write-clause-table c =
+    (table_kept c.args.self.now c.args.thread c.in-Some.player.now c.answer-in-Write.new.self c.answer-in-Write.new.transcript (Write c.in-Write.cell c.in-Write.value) 0 c.requires (slice_get_read c.args.self.now.players.items _ c.args.thread c.in-Some.player.now refl c.in-Some.ensures.item.3.0 c.in-Some.ensures.value) c.in-Write.is refl c.in_ok-answer-in-Write.ensures.went_on, record { program = refl; fuel = refl })
+
+pub returns-in_ok-answer-in-Write-clause-taken : goal.returns-in_ok-answer-in-Write-clause-taken
+returns-in_ok-answer-in-Write-clause-taken c = λ m shows.
+    turn_shown c.args.self.now c.args.thread c.in-Some.player.now c.answer-in-Write.new.self c.answer-in-Write.new.transcript (Write c.in-Write.cell c.in-Write.value) 0 c.requires (slice_get_read c.args.self.now.players.items _ c.args.thread c.in-Some.player.now refl c.in-Some.ensures.item.3.0 c.in-Some.ensures.value) c.in-Write.is tt refl c.in_ok-answer-in-Write.ensures.went_on m shows

@@ -1,0 +1,100 @@
+-- The machine of `follow` beside the sequentially consistent machine that it shows. Only private clauses cite this module.
+use Rattle.std.specs.Prelude.{◌≡◌, ℕ, ◌-◌, ◌*◌, ◌<◌, ◌≤◌, ◌++◌, ◌==◌, ◌∷◌, [], if◌then◌else◌, Bool, true, false, List, length, map, slice_index, slice_set, Option, Some, None, Result, Ok, Err}
+use Rattle.std.specs.List.{range_with_len, slice_index_or}
+use Rattle.stride_base.specs.Listed.{Listed}
+use Rattle.stride_isa.specs.Listing.{Listing, cell_count}
+use Rattle.sc_machine.specs.declared.stop.Stop.{Stop}
+use Rattle.sc_machine.specs.declared.stop.Stop.TheVariants.{Read, Write, Ended}
+use Rattle.sc_machine.specs.ThreadStep.{Thread, Stands, start_thread, now, settled, answered}
+use Rattle.sc_machine.specs.ThreadRun.{SameThread, NamesCell, state}
+use Rattle.sc_machine.specs.Machine.{Machine, can}
+use Rattle.sc_machine.specs.Schedule.{settled_lines, turn, turns, ready, run_of, refused_place}
+use Rattle.sc_machine.specs.Transcript.{tag, transcript_bytes}
+use Rattle.stride_cli.specs.declared.player.Player.{Player}
+use Rattle.stride_cli.specs.declared.playing.PlayError.{PlayError}
+use Rattle.stride_cli.specs.declared.playing.PlayError.TheVariants as errors
+use Rattle.stride_cli.specs.declared.table.Table.{Table}
+
+-- the thread that a player plays
+abbrev pub thread_of : Player → Thread
+thread_of player = state player.run player.printed.items
+
+-- it plays this thread of the program with this fuel, and stands where it says, with room for what it may print
+pub record IsPlayer (p : Listing) (fuel t : ℕ) (player : Player) : Type 0 where
+  pub program : player.run.program ≡ p
+  pub thread : player.run.thread ≡ t
+  pub fuel_is : player.run.fuel ≡ fuel
+  pub stands : now p t (thread_of player) ≡ Stands player.stop
+  pub cell : NamesCell p player.stop
+  pub room : 21 * (fuel - player.run.made) ≤ player.printed.spare
+  pub label : player.label.items ≡ tag t
+
+-- these bytes with a label before each line; begins tells whether the first byte begins a line
+abbrev pub labelled : List ℕ → Bool → List ℕ → List ℕ
+labelled label begins [] = []
+labelled label begins (byte ∷ bytes) = (if begins then label else []) ++ (byte ∷ labelled label (byte == 10) bytes)
+
+-- the word that a thread reads at a stop from the row of cells, 0 where it reads none
+abbrev pub word_in : Stop → List ℕ → ℕ
+word_in (Read cell) cells = slice_index cells cell
+word_in (Write cell value) cells = 0
+word_in (Ended end) cells = 0
+
+-- the row of cells after the instruction at a stop
+abbrev pub cells_in : Stop → List ℕ → List ℕ
+cells_in (Read cell) cells = cells
+cells_in (Write cell value) cells = slice_set cells cell value
+cells_in (Ended end) cells = cells
+
+-- the player was given a word at its shared instruction and went on to where it stands then, and what it printed on
+-- the way was added to the transcript
+pub record WentOn (p : Listing) (fuel t word : ℕ) (old new : Player) (lines lines' : List ℕ) : Type 0 where
+  pub player : IsPlayer p fuel t new
+  pub settles : thread_of new ≡ settled p fuel t (answered p fuel t word (thread_of old))
+  pub printed : lines' ≡ lines ++ transcript_bytes (settled_lines p fuel t (answered p fuel t word (thread_of old)))
+
+-- these are the players of the first threads, each settled from its start
+pub record ArePlayers (p : Listing) (fuel count : ℕ) (players : List Player) : Type 0 where
+  pub long : length players ≡ count
+  pub settles : map thread_of players ≡ map (λ t. settled p fuel t start_thread) (range_with_len 0 count)
+  pub each : (t : ℕ) (d : Player) → t < count → IsPlayer p fuel t (slice_index_or players t d)
+
+-- the table has a player for each thread of its program
+pub record IsTable (table : Table) : Type 0 where
+  pub count : length table.players.items ≡ length table.program.now.threads
+  pub room : cell_count table.program.now.decls ≤ length table.cells
+  pub each : (t : ℕ) (d : Player) → t < length table.players.items → IsPlayer table.program.now table.fuel t (slice_index_or table.players.items t d)
+
+-- the table shows this machine
+pub record Shows (table : Table) (m : Machine) : Type 0 where
+  pub threads : m.threads ≡ map thread_of table.players.items
+  pub cells : (cell : ℕ) → cell < cell_count table.program.now.decls → slice_index table.cells cell ≡ m.cells cell
+  pub transcript : table.transcript.items ≡ transcript_bytes m.transcript
+
+-- the table is one of the same program with the same fuel
+pub record SameGame (old new : Table) : Type 0 where
+  pub program : new.program ≡ old.program
+  pub fuel : new.fuel ≡ old.fuel
+
+-- each player stands where it says
+abbrev pub ArePlaying : List Player → Type 0
+ArePlaying players = (t : ℕ) (d : Player) → t < length players → IsPlayer (slice_index_or players t d).run.program (slice_index_or players t d).run.fuel (slice_index_or players t d).run.thread (slice_index_or players t d)
+
+-- the table shows what the schedule leads to
+pub record PlayedTo (old new : Table) (schedule : List ℕ) : Type 0 where
+  pub table : IsTable new
+  pub game : SameGame old new
+  pub machine : Machine
+  pub reached : turns old.program.now old.fuel schedule (ready old.program.now old.fuel) ≡ Some machine
+  pub shows : Shows new machine
+
+-- no run of the schedule is there, and this is the place of the first member that is refused
+pub record RefusedAt (p : Listing) (fuel : ℕ) (schedule : List ℕ) (place : ℕ) : Type 0 where
+  pub no_run : run_of p fuel schedule ≡ None
+  pub first : refused_place p fuel schedule ≡ Some place
+
+-- what playing the schedule came to
+abbrev pub Plays : Table → Table → List ℕ → Result (Unit {0}) PlayError → Type 0
+Plays old new schedule (Ok done) = PlayedTo old new schedule
+Plays old new schedule (Err (errors.NotEnabled place)) = RefusedAt old.program.now old.fuel schedule place
+Plays old new schedule (Err errors.NoMemory) = Unit {0}

@@ -1,0 +1,41 @@
+-- The sections of reports, each a function of one value.
+use Rattle.std.specs.Prelude.{ℕ, ◌+◌, List, [], ◌∷◌, ◌++◌, codes, decimal}
+use Rattle.sc_machine.specs.declared.end.End.{End}
+use Rattle.sc_machine.specs.declared.end.End.TheVariants.{Halted, Trapped, OutOfSteps, Stopped}
+use Rattle.sc_machine.specs.declared.trap.Trap.{Trap}
+use Rattle.sc_machine.specs.declared.trap.Trap.TheVariants.{DivZero, Range, Again, NotHeld, HeldAtHalt}
+use Rattle.sc_machine.specs.Machine.{Machine, Printed}
+use Rattle.sc_machine.specs.Schedule.{ends}
+use Rattle.sc_machine.specs.Transcript.{transcript_bytes}
+
+-- the word for a trap
+abbrev pub trap_word : Trap → List ℕ
+trap_word DivZero = codes "div-zero"
+trap_word Range = codes "range"
+trap_word Again = codes "again"
+trap_word NotHeld = codes "not-held"
+trap_word HeldAtHalt = codes "held-at-halt"
+
+-- the words for a thread's end
+abbrev pub end_words : End → List ℕ
+end_words Halted = codes "halted"
+end_words (Trapped trap pc) = codes "trapped " ++ (trap_word trap ++ (codes " at " ++ decimal pc))
+end_words OutOfSteps = codes "out-of-steps"
+end_words (Stopped pc) = codes "stopped at " ++ decimal pc
+
+-- a line for each end, with the threads' numbers from this one on
+abbrev pub end_lines : ℕ → List End → List ℕ
+end_lines thread [] = []
+end_lines thread (end ∷ ends) = decimal thread ++ (32 ∷ (end_words end ++ (10 ∷ end_lines (thread + 1) ends)))
+
+-- the section `transcript`: the printed lines, each with its thread's number, in the order of the run
+abbrev pub transcript_section : List Printed → List ℕ
+transcript_section lines = codes "transcript" ++ (10 ∷ transcript_bytes lines)
+
+-- the section `ends`: how each thread ended, in order of number
+abbrev pub ends_section : List End → List ℕ
+ends_section all = codes "ends" ++ (10 ∷ end_lines 0 all)
+
+-- the report of `follow` on a machine at the end of its run
+abbrev pub follow_report : Machine → List ℕ
+follow_report m = transcript_section m.transcript ++ ends_section (ends m)

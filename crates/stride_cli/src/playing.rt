@@ -1,0 +1,57 @@
+//! The loop over a schedule, and the ends of the threads behind it.
+ghost use Rattle.std.specs.Prelude.{◌≡◌, ◌≤◌, None, Some, IfOk, OnOk, map, length};
+ghost use Rattle.sc_machine.specs.ThreadStep.{end_of};
+ghost use Rattle.sc_machine.specs.Machine.{Machine};
+ghost use Rattle.sc_machine.specs.Schedule.{ready};
+ghost use Rattle.stride_cli.specs.Playing.{ArePlaying, IsTable, Shows, Plays, thread_of};
+
+use std::alloc::Global;
+
+use sc_machine::End;
+use stride_base::{List, NoMemory};
+
+use crate::player::Player;
+use crate::table::Table;
+
+/// Why a schedule was not played to its end.
+#[derive(Clone, Copy, Debug, PartialEq, Eq)]
+pub enum PlayError {
+    /// The member at this place, counted from 0, can take no turn.
+    NotEnabled { place: u32 },
+    /// Memory ran out.
+    NoMemory,
+}
+
+/// Plays the schedule, one turn for each member.
+pub fn play(table: &mut Table<'_>, schedule: &[u8]) -> Result<(), PlayError>
+    requires table { IsTable table.old }
+    requires ready { Shows table.old (ready table.old.program.now table.old.fuel) }
+    requires limit { length schedule.now ≤ 134217728 }
+    ensures { Plays table.old table.new schedule.now result }
+{
+    for (place, thread) in schedule.iter().enumerate() {
+        match table.turn(*thread) {
+            Ok(true) => {}
+            Ok(false) => {
+                return Err(PlayError::NotEnabled {
+                    place: place as u32,
+                });
+            }
+            Err(NoMemory) => return Err(PlayError::NoMemory),
+        }
+    }
+    Ok(())
+}
+
+/// How each thread ends, in order of number.
+pub fn ends_of(alloc: Global, players: &mut Vec<Player<'_>>) -> Result<Vec<End>, NoMemory>
+    requires { ArePlaying players.old.items }
+    ensures { IfOk result (λ ends. ends.items ≡ map end_of (map thread_of players.old.items)) }
+{
+    let mut ends = Vec::new(alloc);
+    for at in 0..players.len() {
+        let player = &mut players[at];
+        ends.push(player.end())?;
+    }
+    Ok(ends)
+}

@@ -1,0 +1,85 @@
+//! The machine that plays a schedule: all threads over one row of cells.
+ghost use Rattle.std.specs.Prelude.{◌≡◌, ◌<◌, ◌≤◌, IfOk, length};
+
+use std::alloc::Global;
+
+use sc_machine::Stop;
+use stride_base::{List, NoMemory};
+use stride_isa::Checked;
+
+use crate::player::Player;
+use crate::starting::{start_players, starting_cells};
+
+/// The most cells of a program.
+pub const CELL_LIMIT: usize = 256;
+
+/// The players of a program's threads, the value of each cell, and the transcript so far.
+#[derive(Drop)]
+pub struct Table<'p> {
+    pub program: &'p Checked,
+    pub fuel: u32,
+    pub players: Vec<Player<'p>>,
+    pub cells: [u64; CELL_LIMIT],
+    pub transcript: List<u8>,
+}
+
+impl<'p> Table<'p> {
+    ghost use Rattle.std.specs.Prelude.{ℕ, IsTrue, true, false, OnOk};
+    ghost use Rattle.std.specs.Bool.{MatchBool};
+    ghost use Rattle.sc_machine.specs.Machine.{Machine, can};
+    ghost use Rattle.sc_machine.specs.Schedule.{ready, turn};
+    ghost use Rattle.stride_cli.specs.Playing.{IsTable, Shows, SameGame};
+
+    /// One turn of a thread: its shared instruction, and its local ones up to the next shared one or its end. It answers
+    /// false where there is no such thread or it cannot take a turn, and nothing has happened then.
+    pub fn turn(&mut self, thread: u8) -> Result<bool, NoMemory>
+        requires { IsTable self.old }
+        ensures table { OnOk result (IsTable self.new × SameGame self.old self.new) }
+        ensures taken { (m : Machine) → Shows self.old m → IfOk result (λ taken. MatchBool taken
+            ((can self.old.program.now thread m ≡ true) × Shows self.new (turn self.old.program.now self.old.fuel thread m))
+            (can self.old.program.now thread m ≡ false)) }
+    {
+        let Some(player) = self.players.get_mut(thread as usize) else {
+            return Ok(false);
+        };
+        match player.stop {
+            Stop::Read { cell } => {
+                let word = self.cells[cell as usize];
+                player.answer(Some(word), &mut self.transcript)?;
+            }
+            Stop::Write { cell, value } => {
+                self.cells[cell as usize] = value;
+                player.answer(None, &mut self.transcript)?;
+            }
+            Stop::Ended { end: _ } => return Ok(false),
+        }
+        Ok(true)
+    }
+}
+
+impl<'p> Table<'p> {
+    ghost use Rattle.std.specs.Prelude.{List};
+    ghost use Rattle.sc_machine.specs.Machine.{Machine};
+    ghost use Rattle.sc_machine.specs.Schedule.{ready};
+    ghost use Rattle.stride_cli.specs.Playing.{IsTable, Shows};
+
+    /// The table after the local start of each thread.
+    pub fn start(alloc: Global, program: &'p Checked, fuel: u32) -> Result<Table<'p>, NoMemory>
+        requires some { 1 ≤ fuel }
+        requires limit { fuel ≤ 1000000 }
+        ensures table { IfOk result IsTable }
+        ensures shows { IfOk result (λ table. Shows table (ready program.now fuel)) }
+        ensures program { IfOk result (λ table. table.program.now ≡ program.now) }
+        ensures fuel { IfOk result (λ table. table.fuel ≡ fuel) }
+    {
+        let mut transcript = List::new(alloc);
+        let players = start_players(alloc, program, fuel, &mut transcript)?;
+        Ok(Table {
+            program,
+            fuel,
+            players,
+            cells: starting_cells(program),
+            transcript,
+        })
+    }
+}
