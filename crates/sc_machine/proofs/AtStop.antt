@@ -1,11 +1,11 @@
 -- The turn of a thread that stands.
 use borrow.Author.Tests.{lt-ltb}
-use Rattle.std.proofs.Common.{◌≡◌, ℕ, ◌<◌, Bool, ◌&&◌, true, List, ◌++◌, length, slice_set, refl, sym, ◌∙◌, ap, arith}
+use Rattle.std.proofs.Common.{◌≡◌, ℕ, ◌<◌, ◌&&◌, List, ◌++◌, length, ◌∙◌, ap}
 use Rattle.std.proofs.lemmas.List.{get_or-set_same, set-set}
 use Rattle.stride_isa.specs.Listing.{Listing}
 use Rattle.sc_machine.specs.declared.stop.Stop.{Stop}
-use Rattle.sc_machine.specs.ThreadStep.{Thread, Row, Stands, start_thread, now, settled, answered}
-use Rattle.sc_machine.specs.Machine.{Machine, Printed, thread_at, may_make, may_pass, can, word_read, cells_after, holders_after, answered_at, with_thread, stepped_by, sc_step}
+use Rattle.sc_machine.specs.ThreadStep.{Thread, Stands, start_thread, now, settled, answered}
+use Rattle.sc_machine.specs.Machine.{Machine, thread_at, may_make, may_pass, can, word_read, cells_after, holders_after, answered_at, with_thread, stepped_by, sc_step}
 use Rattle.sc_machine.specs.Schedule.{settled_lines, settle, turn, turned}
 
 -- a thread that stands is enabled where it may pass the stop

@@ -1,10 +1,11 @@
 -- The place at which a list is no schedule, along its turns.
-use Rattle.std.proofs.Common.{◌≡◌, ℕ, zero, suc, ◌+◌, ◌<◌, ◌≤◌, Bool, true, false, not, cond, List, [], ◌∷◌, ◌++◌, length, take, drop, slice_index, Option, Some, None, refl, sym, ◌∙◌, ap, add-one, arith}
+use Rattle.std.proofs.Common.{◌≡◌, ℕ, zero, suc, ◌+◌, ◌<◌, Bool, true, false, not, cond, List, [], ◌∷◌, ◌++◌, length, take, drop, slice_index, Option, Some, None, refl, sym, ◌∙◌, ap, arith}
+use Rattle.std.proofs.lemmas.List.{take-append-drop, drop_more, length-take-le}
 use Rattle.std.specs.List.{find, range_with_len}
 use Rattle.std.specs.Option.{option_map, option_and_then, is_some}
 use Rattle.stride_isa.specs.Listing.{Listing}
 use Rattle.sc_machine.specs.Machine.{Machine, can}
-use Rattle.sc_machine.specs.Schedule.{turn, turns, stuck_place, ready, run_of, is_schedule, refused_place}
+use Rattle.sc_machine.specs.Schedule.{turn, turns, stuck_place, ready, refused_place, finished, replayed}
 use Rattle.sc_machine.proofs.Single.{run_of-turns, append_under}
 
 find-alike : {X : Type 0} (f g : X → Bool) → ((x : X) → f x ≡ g x) → (xs : List X) → find f xs ≡ find g xs
@@ -89,3 +90,35 @@ stuck_place-at p fuel [] t ys m after made refused =
     ap (λ b. cond b (option_map suc (stuck_place p fuel ys (turn p fuel t m))) (Some 0)) (ap (λ x. can p t x) same ∙ refused)
 stuck_place-at p fuel (u ∷ xs) t ys m after made refused =
     refused_under (can p u m) (turns p fuel xs (turn p fuel u m)) _ (length xs) after made (λ e. stuck_place-at p fuel xs t ys (turn p fuel u m) after e refused)
+
+-- one more turn, of a thread that is enabled
+pub turns-push : (p : Listing) (fuel : ℕ) (xs : List ℕ) (t : ℕ) (m after : Machine) → turns p fuel xs m ≡ Some after → can p t after ≡ true → turns p fuel (xs ++ t ∷ []) m ≡ Some (turn p fuel t after)
+unfolding turns
+turns-push p fuel xs t m after made enabled =
+    turns-append p fuel xs (t ∷ []) m ∙ ap (λ o. option_and_then (turns p fuel (t ∷ [])) o) made
+    ∙ ap (λ b. cond b (Some (turn p fuel t after)) None) enabled
+
+-- where all turns are made, nothing is refused
+pub replayed-made : (p : Listing) (fuel : ℕ) (schedule : List ℕ) (m : Machine) → turns p fuel schedule (ready p fuel) ≡ Some m → (refused_place p fuel schedule ≡ None) × (replayed p fuel schedule ≡ Some (finished m))
+replayed-made p fuel schedule m made = (
+  refused_place-stuck p fuel schedule ∙ stuck_place-made p fuel schedule (ready p fuel) m made,
+  ap (λ o. option_map finished o) (run_of-turns p fuel schedule ∙ made),
+)
+
+turns-refused : (p : Listing) (fuel : ℕ) (xs : List ℕ) (t : ℕ) (ys : List ℕ) (m after : Machine) → turns p fuel xs m ≡ Some after → can p t after ≡ false → turns p fuel (xs ++ t ∷ ys) m ≡ None
+unfolding turns
+turns-refused p fuel xs t ys m after made refused =
+    turns-append p fuel xs (t ∷ ys) m ∙ ap (λ o. option_and_then (turns p fuel (t ∷ ys)) o) made
+    ∙ ap (λ b. cond b (turns p fuel ys (turn p fuel t after)) None) refused
+
+-- where the turns of a front are made and the next member is not enabled, that is the refused place
+pub replayed-refused : (p : Listing) (fuel : ℕ) (schedule : List ℕ) (place : ℕ) (m : Machine) → place < length schedule → turns p fuel (take place schedule) (ready p fuel) ≡ Some m → can p (slice_index schedule place) m ≡ false → (refused_place p fuel schedule ≡ Some place) × (replayed p fuel schedule ≡ None)
+replayed-refused p fuel schedule place m within made refused =
+    let front = take place schedule in
+    let t = slice_index schedule place in
+    let rest = drop (place + 1) schedule in
+    let parts : schedule ≡ front ++ t ∷ rest = sym (take-append-drop place schedule) ∙ ap (λ xs. front ++ xs) (drop_more schedule place 0 within) in (
+      refused_place-stuck p fuel schedule ∙ ap (λ xs. stuck_place p fuel xs (ready p fuel)) parts
+          ∙ stuck_place-at p fuel front t rest (ready p fuel) m made refused ∙ ap Some (length-take-le place schedule (omega arith)),
+      ap (λ o. option_map finished o) (run_of-turns p fuel schedule ∙ ap (λ xs. turns p fuel xs (ready p fuel)) parts ∙ turns-refused p fuel front t rest (ready p fuel) m made refused),
+    )

@@ -1,12 +1,10 @@
 -- Whole turns and their single steps.
 use borrow.Author.Tests.{lt-ltb, ltb-true}
-use Rattle.std.proofs.Common.{◌≡◌, ℕ, zero, suc, ◌+◌, ◌-◌, ◌<◌, ◌≤◌, Bool, true, false, cond, ◌&&◌, nat_lt, List, [], ◌∷◌, ◌++◌, length, replicate, slice_index_or, slice_set, Option, Some, None, refl, sym, ◌∙◌, ap, subst, append_assoc, append-nil, length-set, arith}
+use Rattle.std.proofs.Common.{◌≡◌, ℕ, zero, suc, ◌+◌, ◌-◌, ◌<◌, ◌≤◌, Bool, true, false, cond, ◌&&◌, nat_lt, List, [], ◌∷◌, ◌++◌, length, replicate, slice_set, Option, Some, None, refl, sym, ◌∙◌, ap, append_assoc, append-nil, length-set, arith}
 use Rattle.std.proofs.lemmas.List.{get_or-set_same, set-set, set-get_or, length-map}
 use Rattle.std.specs.List.{range_with_len}
 use Rattle.std.specs.Option.{option_and_then}
 use Rattle.stride_isa.specs.Listing.{Listing}
-use Rattle.sc_machine.specs.declared.end.End.{End}
-use Rattle.sc_machine.specs.declared.stop.Stop.{Stop}
 use Rattle.sc_machine.specs.ThreadStep.{Thread, Row, Goes, Ends, Stands, start_thread, printed_by, now, moved, local_step, local_steps, settled}
 use Rattle.sc_machine.specs.Machine.{Machine, Printed, start_machine, thread_at, may_make, can, printed_line, with_thread, stepped_by, moved_by, sc_step, sc_run}
 use Rattle.sc_machine.specs.Schedule.{printed_in, settled_lines, settle, turn, turns, started, ready, locals_of, expand_starts, expand, whole, run_of}
@@ -61,11 +59,11 @@ first_local p fuel t n r s m rest e there is counted stepped may =
     let k = (local_steps p fuel t n s').made - s'.made in
     let count : (local_steps p fuel t n s').made - s.made ≡ suc k = omega (arith, local_steps-made-le p fuel t n s') in
     let enabled : can p t m ≡ true =
-      ap (λ b. b && may_make (now p t (thread_at m t)) m.holders) (lt-ltb t (length m.threads) there)
-      ∙ ap (λ x. may_make (now p t x) m.holders) is ∙ ap (λ x. may_make x m.holders) e ∙ may in
+    ap (λ b. b && may_make (now p t (thread_at m t)) m.holders) (lt-ltb t (length m.threads) there)
+    ∙ ap (λ x. may_make (now p t x) m.holders) is ∙ ap (λ x. may_make x m.holders) e ∙ may in
     let step : sc_step p fuel t m ≡ m' =
-      ap (λ x. stepped_by p fuel t (now p t x) m) is ∙ ap (λ x. stepped_by p fuel t x m) e ∙ stepped
-      ∙ ap (λ x. with_thread t (moved fuel r x) lines m) is in
+    ap (λ x. stepped_by p fuel t (now p t x) m) is ∙ ap (λ x. stepped_by p fuel t x m) e ∙ stepped
+    ∙ ap (λ x. with_thread t (moved fuel r x) lines m) is in
     let there' : t < length m'.threads = omega (arith, length-set m.threads t s') in
     ap (λ c. sc_run p fuel (replicate c t) m) count
     ∙ ap (λ b. cond b (sc_run p fuel (replicate k t) (sc_step p fuel t m)) None) enabled

@@ -1,10 +1,10 @@
 -- The machine after the local starts.
-use Rattle.std.proofs.Common.{◌≡◌, ℕ, zero, suc, ◌+◌, List, [], ◌∷◌, ◌++◌, length, replicate, map, slice_set, Option, None, refl, sym, ◌∙◌, ap, append_assoc, append-nil, arith}
+use Rattle.std.proofs.Common.{◌≡◌, ℕ, zero, suc, ◌+◌, List, [], ◌∷◌, ◌++◌, length, replicate, map, Option, None, refl, sym, ◌∙◌, ap, append_assoc, append-nil}
 use Rattle.std.proofs.lemmas.List.{get_or_at, set_at, length_push}
 use Rattle.std.specs.List.{flat_map, range_with_len}
 use Rattle.stride_isa.specs.Listing.{Listing, start_of}
 use Rattle.sc_machine.specs.ThreadStep.{Thread, start_thread, settled}
-use Rattle.sc_machine.specs.Machine.{Machine, Printed, start_machine, thread_at, with_thread}
+use Rattle.sc_machine.specs.Machine.{Machine, Printed, with_thread}
 use Rattle.sc_machine.specs.Schedule.{settled_lines, settle, started, thread_numbers, ready}
 
 abbrev machine_of : List Thread → List Printed → (ℕ → ℕ) → (ℕ → Option ℕ) → Machine

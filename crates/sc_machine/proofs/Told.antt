@@ -1,20 +1,16 @@
 -- Each thread's output is its lines of the transcript.
 use borrow.Author.Tests.{eq-eqb, ne_eqb}
-use Rattle.std.proofs.Common.{◌≡◌, ◌≢◌, ℕ, zero, suc, ⊎_elim, ◌==◌, ◌<◌, Bool, true, false, cond, ◌⊎◌, inl, inr, List, [], ◌∷◌, ◌++◌, length, map, slice_index_or, slice_set, Option, Some, None, refl, sym, ◌∙◌, ap, subst, append-nil, arith}
+use Rattle.std.proofs.Common.{◌≡◌, ◌≢◌, ℕ, zero, suc, ⊎_elim, ◌==◌, ◌<◌, Bool, true, false, cond, List, [], ◌∷◌, ◌++◌, length, map, slice_index_or, slice_set, Option, Some, None, refl, sym, ◌∙◌, ap, subst, append-nil, arith}
 use Rattle.std.proofs.lemmas.Bool.{cases_eq}
 use Rattle.std.proofs.lemmas.Grind.{flat_map-append}
 use Rattle.std.proofs.lemmas.List.{get_or-set_same, get_or-set_other, get_or-map, length-map}
 use Rattle.std.proofs.lemmas.List.FromFn.{fill_by_all}
-use Rattle.std.specs.List.{flat_map, range_with_len}
 use Rattle.std.specs.Option.{option_map}
 use Rattle.stride_isa.specs.Listing.{Listing}
-use Rattle.sc_machine.specs.declared.end.End.{End}
-use Rattle.sc_machine.specs.declared.stop.Stop.{Stop}
-use Rattle.sc_machine.specs.ThreadStep.{Thread, Row, Goes, Ends, Stands, start_thread, printed_by, now, moved}
-use Rattle.sc_machine.specs.Machine.{Machine, Printed, start_machine, thread_at, can, printed_line, with_thread, stepped_by, sc_step, sc_run}
+use Rattle.sc_machine.specs.ThreadStep.{Thread, Row, Goes, Ends, Stands, start_thread, now}
+use Rattle.sc_machine.specs.Machine.{Machine, Printed, start_machine, thread_at, can, printed_line, stepped_by, sc_step, sc_run}
 use Rattle.sc_machine.specs.Schedule.{whole, run_of, finished, stopped, replayed, outputs, thread_numbers}
 use Rattle.sc_machine.specs.Transcript.{bytes_of}
-use Rattle.sc_machine.proofs.Output.{moved-out}
 use Rattle.sc_machine.proofs.Single.{there_from_can, length-sc_step}
 
 -- each thread's output is its lines of the transcript
@@ -39,9 +35,9 @@ told_after threads lines u s bytes there out told t = ⊎_elim own other (cases_
   where
     own : t ≡ u → (slice_index_or (slice_set threads u s) t start_thread).out ≡ bytes_of t (lines ++ printed_line u bytes)
     own e = subst (λ (x : ℕ). (slice_index_or (slice_set threads u s) x start_thread).out ≡ bytes_of x (lines ++ printed_line u bytes)) (sym e) (
-      ap (λ (x : Thread). x.out) (get_or-set_same threads u s start_thread there) ∙ out
-      ∙ ap (λ xs. xs ++ bytes) (told u) ∙ sym (ap (λ xs. bytes_of u lines ++ xs) (bytes_of-own u bytes))
-      ∙ sym (bytes_of-append u lines (printed_line u bytes)))
+        ap (λ (x : Thread). x.out) (get_or-set_same threads u s start_thread there) ∙ out
+        ∙ ap (λ xs. xs ++ bytes) (told u) ∙ sym (ap (λ xs. bytes_of u lines ++ xs) (bytes_of-own u bytes))
+        ∙ sym (bytes_of-append u lines (printed_line u bytes)))
 
     other : (t ≡ u → ⊥) → (slice_index_or (slice_set threads u s) t start_thread).out ≡ bytes_of t (lines ++ printed_line u bytes)
     other apart =
@@ -98,5 +94,5 @@ outputs-told p fuel schedule m e =
     let long : length outs ≡ length p.threads = length-map before.threads (λ (s : Thread). s.out) ∙ told.1 ∙ length-map p.threads (λ code. start_thread) in
     ap outputs (sym run.2) ∙ outputs-finished before.threads
     ∙ fill_by_all (λ t. bytes_of t before.transcript) outs (length p.threads) [] long (λ k within.
-      get_or-map (λ (s : Thread). s.out) before.threads k start_thread [] (omega (arith, told.1, length-map p.threads (λ code. start_thread))) ∙ told.0 k)
+    get_or-map (λ (s : Thread). s.out) before.threads k start_thread [] (omega (arith, told.1, length-map p.threads (λ code. start_thread))) ∙ told.0 k)
     ∙ ap (λ (x : Machine). map (λ t. bytes_of t x.transcript) (thread_numbers p)) run.2

@@ -1,12 +1,11 @@
 -- What holds of every run of the machine, whatever the program is.
-use Rattle.std.specs.Prelude.{◌≡◌, ℕ, ◌<◌, List, ◌++◌, length, map, Option, Some, None}
+use Rattle.std.specs.Prelude.{◌≡◌, ℕ, ◌<◌, true, false, List, ◌++◌, length, map, take, slice_index, Some, None}
 use Rattle.std.specs.List.{flat_map}
-use Rattle.std.specs.Prelude.{true}
 use Rattle.stride_isa.specs.Listing.{Listing, start_of}
 use Rattle.sc_machine.specs.declared.stop.Stop.{Stop}
-use Rattle.sc_machine.specs.ThreadStep.{Thread, Stands, start_thread, now, settled, stop_of, answered}
+use Rattle.sc_machine.specs.ThreadStep.{Thread, Stands, start_thread, now, settled, stop_of}
 use Rattle.sc_machine.specs.Machine.{Machine, thread_at, may_pass, can}
-use Rattle.sc_machine.specs.Schedule.{settled_lines, turn, turned, turns, stuck_place, ready, thread_numbers, run_of, refused_place, replayed, outputs}
+use Rattle.sc_machine.specs.Schedule.{settled_lines, turn, turned, turns, stuck_place, ready, thread_numbers, run_of, refused_place, finished, replayed, outputs}
 use Rattle.sc_machine.specs.Transcript.{transcript_bytes, line_bytes, bytes_of, tagged}
 
 -- the single steps of a schedule do what its whole turns do, behind the local starts
@@ -17,13 +16,21 @@ TurnsAreSteps = (p : Listing) (fuel : ℕ) (schedule : List ℕ) → run_of p fu
 abbrev pub RefusedWhereStuck : Type 0
 RefusedWhereStuck = (p : Listing) (fuel : ℕ) (schedule : List ℕ) → refused_place p fuel schedule ≡ stuck_place p fuel schedule (ready p fuel)
 
+-- where the turns of all members are made, the list is a schedule, and what they come to is its run
+abbrev pub MadeAlongTurns : Type 0
+MadeAlongTurns = (p : Listing) (fuel : ℕ) (schedule : List ℕ) (m : Machine) → turns p fuel schedule (ready p fuel) ≡ Some m → (refused_place p fuel schedule ≡ None) × (replayed p fuel schedule ≡ Some (finished m))
+
+-- where the turns of a front are made and the next member is not enabled, that member's is the refused place
+abbrev pub RefusedAlongTurns : Type 0
+RefusedAlongTurns = (p : Listing) (fuel : ℕ) (schedule : List ℕ) (place : ℕ) (m : Machine) → place < length schedule → turns p fuel (take place schedule) (ready p fuel) ≡ Some m → can p (slice_index schedule place) m ≡ false → (refused_place p fuel schedule ≡ Some place) × (replayed p fuel schedule ≡ None)
+
 -- after the local starts each thread has settled by itself, and its lines stand in order of number
 abbrev pub StartsSettle : Type 0
 StartsSettle = (p : Listing) (fuel : ℕ) → ready p fuel ≡ record {
   threads = map (λ t. settled p fuel t start_thread) (thread_numbers p);
   cells = start_of p;
   holders = λ monitor. None;
-  transcript = flat_map (λ t. settled_lines p fuel t start_thread) (thread_numbers p)
+  transcript = flat_map (λ t. settled_lines p fuel t start_thread) (thread_numbers p);
 }
 
 -- a thread that stands is enabled where it may pass its stop, and its turn is one equation by that stop

@@ -34,7 +34,7 @@ turned p fuel t stop m =
       threads = slice_set m.threads t (settled p fuel t s);
       cells = cells_after stop m.cells;
       holders = holders_after t stop m.holders;
-      transcript = m.transcript ++ settled_lines p fuel t s
+      transcript = m.transcript ++ settled_lines p fuel t s;
     }
 
 -- the machine after one turn of each thread of the list in turn, if each is enabled when it is named

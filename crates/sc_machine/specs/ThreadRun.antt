@@ -1,6 +1,6 @@
 -- What contracts see of a `ThreadRun`: a thread's state without its output, which lies with the caller.
-use Rattle.std.specs.Prelude.{◌≡◌, ℕ, ◌<◌, List, [], Bool, Option, Some, None, length}
-use Rattle.stride_isa.specs.Listing.{Listing, code_of, cell_count}
+use Rattle.std.specs.Prelude.{◌≡◌, ℕ, ◌<◌, List, [], Bool, Option, Some, None}
+use Rattle.stride_isa.specs.Listing.{Listing, cell_count}
 use Rattle.sc_machine.specs.declared.end.End.{End}
 use Rattle.sc_machine.specs.declared.stop.Stop.{Stop}
 use Rattle.sc_machine.specs.declared.stop.Stop.TheVariants.{Read, Write, Ended}
@@ -33,7 +33,7 @@ start_run p thread fuel = record {
   locals = start_thread.locals;
   held = start_thread.held;
   made = start_thread.made;
-  ended = start_thread.ended
+  ended = start_thread.ended;
 }
 
 -- the shared instruction, or the end, at which the run stands

@@ -35,7 +35,7 @@ macro_rules! with_operand {
     };
 }
 
-// One macro for each class of the table: what an instruction of the class does to the parts.
+// One macro for each class of the table: what its instructions do to the parts, of which each class is handed all.
 macro_rules! pushes {
     (Push ($program:ident $pc:ident $stack:ident $locals:ident $held:ident $out:ident) $value:ident) => {{
         $stack.push($value);
@@ -98,8 +98,8 @@ fn end_of_halt(held: &[bool], pc: u32) -> End
     }
 }
 
-/// Makes a local instruction, or tells of a shared one where the thread stands.
-pub fn make(
+/// Executes a local instruction, or tells of a shared one, at which the thread stands.
+pub fn execute(
     op: Op,
     program: &Checked,
     pc: u32,

@@ -1,44 +1,43 @@
 //! Laws of the machine, over its definitions alone. Each is the contract of a function that does nothing.
-ghost use Rattle.sc_machine.specs.Laws.{TurnsAreSteps, RefusedWhereStuck, StartsSettle, TurnByStop, SettledStands, SettledPrints, OutputsAreLines};
+ghost use Rattle.sc_machine.specs.Laws.{TurnsAreSteps, RefusedWhereStuck, MadeAlongTurns, RefusedAlongTurns, StartsSettle, TurnByStop, SettledStands, SettledPrints, OutputsAreLines};
 
 /// The single steps of a schedule do what its whole turns do, behind the local starts.
 pub fn turns_are_steps()
     ensures { TurnsAreSteps }
-{
-}
+{}
 
 /// A list is refused at the first member that is not enabled when its turn comes.
 pub fn refused_where_stuck()
     ensures { RefusedWhereStuck }
-{
-}
+{}
+
+/// A schedule's run is found along its turns, and so is the place at which a list is refused.
+pub fn replay_along_turns()
+    ensures made { MadeAlongTurns }
+    ensures refused { RefusedAlongTurns }
+{}
 
 /// After the local starts each thread has settled by itself.
 pub fn starts_settle()
     ensures { StartsSettle }
-{
-}
+{}
 
 /// The turn of a thread that stands is one equation by its stop.
 pub fn turn_by_stop()
     ensures { TurnByStop }
-{
-}
+{}
 
 /// A thread settles at a shared instruction or at its end.
 pub fn settled_stands()
     ensures { SettledStands }
-{
-}
+{}
 
 /// What a thread prints until it settles is its lines of the transcript.
 pub fn settled_prints()
     ensures { SettledPrints }
-{
-}
+{}
 
 /// The output of each thread of a run is its lines of the transcript.
 pub fn outputs_are_lines()
     ensures { OutputsAreLines }
-{
-}
+{}

@@ -1,4 +1,9 @@
 //! One thread's run, and the sequentially consistent machine.
+//!
+//! Owns: the step of a thread (`ThreadStep`), what contracts see of a run of one thread (`ThreadRun`), the machine
+//! (`Machine`), its schedules (`Schedule`), its transcripts (`Transcript`), and the laws of its runs (`Laws`).
+//! The layer above may rely on this: `ThreadRun::local` and `ThreadRun::answer` are the thread step, and whole turns
+//! do what the single steps of the machine do.
 #![tactic(auto)]
 
 mod end;
@@ -12,8 +17,8 @@ mod trap;
 
 pub use end::End;
 pub use laws::{
-    outputs_are_lines, refused_where_stuck, settled_prints, settled_stands, starts_settle, turn_by_stop,
-    turns_are_steps,
+    outputs_are_lines, refused_where_stuck, replay_along_turns, settled_prints, settled_stands,
+    starts_settle, turn_by_stop, turns_are_steps,
 };
 pub use stop::Stop;
 pub use thread_run::ThreadRun;

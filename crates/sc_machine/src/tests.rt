@@ -2,13 +2,11 @@
 ghost use Rattle.std.specs.Prelude.{◌≡◌, IfSome, IfOk, length};
 ghost use Rattle.stride_isa.specs.declared.decl.Shape.TheVariants.{Single};
 
+use super::*;
 use std::alloc::Global;
 use std::test::Fail;
-
 use stride_base::List;
 use stride_isa::{Checked, Decl, Name, Op, Program, Shape, check};
-
-use super::*;
 
 fn variable(bytes: &[u8], start: u64) -> Option<Decl>
     ensures { IfSome result (λ d. d.shape ≡ Single) }
@@ -48,6 +46,7 @@ fn two_threads(alloc: Global, first: &[Op], second: &[Op]) -> Result<Checked, Fa
 }
 
 const WRITES: [Op; 3] = [Op::Push(3), Op::Write(0), Op::Halt];
+
 const READS: [Op; 3] = [Op::Read(0), Op::Print, Op::Halt];
 
 #[test]
@@ -90,7 +89,12 @@ fn a_thread_is_given_up(rt: HostRuntime) -> Result<(), Fail> {
     };
     assert!(rt; !writer.held(63));
     assert!(rt; writer.give_up() == End::Stopped { pc: 1 });
-    assert!(rt; writer.local(&mut out) == Stop::Ended { end: End::Stopped { pc: 1 } });
+    assert!(rt;
+        writer.local(&mut out)
+            == Stop::Ended {
+                end: End::Stopped { pc: 1 }
+            }
+    );
     assert_eq!(rt; writer.thread(), 0);
     Ok(())
 }
@@ -100,7 +104,12 @@ fn prints_and_ends(rt: HostRuntime) -> Result<(), Fail> {
     let rows: [(u64, u32, &[u8], End); 5] = [
         (0, 3, b"0\n", End::Halted),
         (907, 10, b"907\n", End::Halted),
-        (18446744073709551615, 1_000_000, b"18446744073709551615\n", End::Halted),
+        (
+            18446744073709551615,
+            1_000_000,
+            b"18446744073709551615\n",
+            End::Halted,
+        ),
         (10, 2, b"10\n", End::OutOfSteps),
         (10, 1, b"", End::OutOfSteps),
     ];

@@ -6,7 +6,7 @@ ghost use Rattle.sc_machine.specs.Went.{Went};
 ghost use Rattle.sc_machine.specs.declared.end.End.TheVariants.{Stopped};
 
 use crate::end::End;
-use crate::instruction::{Next, finish, make};
+use crate::instruction::{Next, execute, finish};
 use crate::limits::{LOCAL_COUNT, MONITOR_LIMIT, STACK_LIMIT};
 use crate::stop::Stop;
 use std::marker::Model;
@@ -90,7 +90,7 @@ impl<'p> ThreadRun<'p> {
             return Some(Stop::Ended { end });
         }
         let op = self.program.op(self.thread, self.pc);
-        match make(
+        match execute(
             op,
             self.program,
             self.pc,

@@ -1,6 +1,4 @@
-use Rattle.std.proofs.Common.{◌≡◌, ◌+◌, ◌-◌, ◌*◌, ◌≤◌, length}
-use Rattle.sc_machine.specs.ThreadRun.{SameThread, state}
-use Rattle.sc_machine.specs.ThreadStep.{settled}
+use Rattle.std.proofs.Common.{◌-◌}
 use Rattle.sc_machine.proofs.Steps.{Settling}
 use Rattle.sc_machine.proofs.thread_run.ThreadRun.local.Given as goal
 
