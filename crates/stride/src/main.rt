@@ -1,0 +1,66 @@
+//! The program `stride`: the real devices, the exit status, and one line on standard error for a refusal.
+#![tactic(auto)]
+
+ghost use Rattle.std.specs.Prelude.{◌≡◌, ◌<◌};
+
+use std::alloc::{AllocError, Global};
+use std::env;
+use std::io;
+use std::io::ErrorKind;
+use std::marker::Brand;
+use std::process::ExitCode;
+use std::sync::Wait;
+use std::sync::ledger::{Blank, Ledger};
+use std::thread::Threads;
+
+use stride_base::{StdSink, StdSource, Steps};
+use stride_cli::{Status, offline};
+
+/// The words behind the program's name. A word that is no UTF-8 makes the command line a faulty one.
+fn words_of(rt: &HostRuntime) -> Result<Vec<String>, Status> {
+    match env::args(rt) {
+        Ok(args) => args.skip(1).collect(rt.alloc()).map_err(|_: AllocError| Status::NoMemory),
+        Err(error) if error.kind() == ErrorKind::OutOfMemory => Err(Status::NoMemory),
+        Err(_) => Err(Status::Usage),
+    }
+}
+
+/// Does the command over the real devices, with a counter of steps made from the blank.
+fn run<L: Ledger, R: Threads + Wait + Sync + Input + Print>(
+    rt: &R,
+    alloc: Global,
+    words: &[&str],
+    blank: Blank,
+) -> Status
+    requires name { blank.name ≡ L.name }
+    requires parts { blank.parts ≡ L.parts }
+    requires some_part { 0 < blank.parts }
+{
+    let mut source = StdSource::new(rt.reader());
+    let mut sink = StdSink::new(io::writer(rt));
+    let mut steps = Steps::<L>::new(rt, blank);
+    offline(alloc, words, &mut source, &mut sink, &mut steps)
+}
+
+fn status_of<R: Threads + Wait + Sync + Input + Print>(
+    rt: &R,
+    alloc: Global,
+    args: &[String],
+) -> Status {
+    let words: Result<Vec<&str>, AllocError> = args.iter().map(|word| word.as_str()).collect(alloc);
+    match words {
+        Ok(words) => run::<Brand, R>(rt, alloc, &words, Blank::new(1)),
+        Err(_) => Status::NoMemory,
+    }
+}
+
+fn main(rt: HostRuntime) -> ExitCode {
+    let status = match words_of(&rt) {
+        Ok(args) => status_of(&rt, rt.alloc(), &args),
+        Err(status) => status,
+    };
+    if status.code() != 0 {
+        let _ = eprintln!(rt; "stride: {status}");
+    }
+    ExitCode::from(status.code())
+}
