@@ -8,7 +8,7 @@ use Rattle.assembler.specs.declared.asm_error.AsmKind.TheVariants.{BadLine}
 use Rattle.assembler.specs.declared.refusal.Refusal.{Refusal}
 use Rattle.assembler.specs.declared.refusal.Refusal.TheVariants as refusals
 
--- what was read is what is spelled, and a refusal says that nothing is; want of memory says nothing
+-- what is given is what is spelled, and a refusal says that nothing is; want of memory says nothing
 abbrev pub Gives : {X Y : Type 0} → (X → Y) → Result X Refusal → Option Y → Type 0
 Gives view (Ok x) spelled = spelled ≡ Some (view x)
 Gives view (Err refusals.Bad) spelled = spelled ≡ None

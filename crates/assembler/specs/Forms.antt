@@ -77,15 +77,17 @@ abbrev pub var_form : Following → Form
 var_form (TwoWords name start) = declared_form (where_name name) (number (2 ^ 64) start)
 var_form words = Malformed
 
--- an instruction with a number, or with a name
+-- the instruction that pushes the number
 abbrev pub push_form : Option ℕ → Form
 push_form (Some word) = PushLine word
 push_form None = Malformed
 
+-- the instruction that reads the variable of the name
 abbrev pub read_form : Option (List ℕ) → Form
 read_form (Some name) = ReadLine name
 read_form None = Malformed
 
+-- the instruction that writes the variable of the name
 abbrev pub write_form : Option (List ℕ) → Form
 write_form (Some name) = WriteLine name
 write_form None = Malformed
