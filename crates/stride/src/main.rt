@@ -4,22 +4,23 @@
 ghost use Rattle.std.specs.Prelude.{◌≡◌, ◌<◌};
 
 use std::alloc::{AllocError, Global};
-use std::env;
-use std::io;
 use std::io::ErrorKind;
 use std::marker::Brand;
 use std::process::ExitCode;
 use std::sync::Wait;
 use std::sync::ledger::{Blank, Ledger};
 use std::thread::Threads;
-
+use std::{env, io};
 use stride_base::{StdSink, StdSource, Steps};
 use stride_cli::{Status, offline};
 
 /// The words behind the program's name. A word that is no UTF-8 makes the command line a faulty one.
 fn words_of(rt: &HostRuntime) -> Result<Vec<String>, Status> {
     match env::args(rt) {
-        Ok(args) => args.skip(1).collect(rt.alloc()).map_err(|_: AllocError| Status::NoMemory),
+        Ok(args) => args
+            .skip(1)
+            .collect(rt.alloc())
+            .map_err(|_: AllocError| Status::NoMemory),
         Err(error) if error.kind() == ErrorKind::OutOfMemory => Err(Status::NoMemory),
         Err(_) => Err(Status::Usage),
     }

@@ -34,20 +34,20 @@ players_more p fuel n players player are is settles = record {
   each = λ t d below. elim (cases_lt t n) [
     | inl lt ↦ subst (λ (q : Player). IsPlayer p fuel t q) (sym (get_or-append players (player ∷ []) d t (omega (arith, are.long)))) (are.each t d lt)
     | inr ge ↦
-      let same : t ≡ length players = omega (arith, are.long) in
-      let number : n ≡ t = omega arith in
-      let here : get_or (players ++ player ∷ []) t d ≡ player = ap (λ k. get_or (players ++ player ∷ []) k d) same ∙ get_or-append_seam players player [] d in
-      subst (λ (k : ℕ). IsPlayer p fuel k (get_or (players ++ player ∷ []) t d)) number (subst (λ (q : Player). IsPlayer p fuel n q) (sym here) is)
-  ]
+        let same : t ≡ length players = omega (arith, are.long) in
+        let number : n ≡ t = omega arith in
+        let here : get_or (players ++ player ∷ []) t d ≡ player = ap (λ k. get_or (players ++ player ∷ []) k d) same ∙ get_or-append_seam players player [] d in
+        subst (λ (k : ℕ). IsPlayer p fuel k (get_or (players ++ player ∷ []) t d)) number (subst (λ (q : Player). IsPlayer p fuel n q) (sym here) is)
+  ];
 }
 
 pub lines_more : (p : Listing) (fuel n : ℕ) (before lines lines' : List ℕ) → lines ≡ before ++ transcript_bytes (flat_map (λ t. settled_lines p fuel t start_thread) (range_with_len 0 n)) → lines' ≡ lines ++ transcript_bytes (settled_lines p fuel n start_thread) → lines' ≡ before ++ transcript_bytes (flat_map (λ t. settled_lines p fuel t start_thread) (range_with_len 0 (n + 1)))
 lines_more p fuel n before lines lines' so_far more =
     let some = flat_map (λ t. settled_lines p fuel t start_thread) (range_with_len 0 n) in
     let last : flat_map (λ t. settled_lines p fuel t start_thread) (range_with_len 0 (n + 1)) ≡ some ++ settled_lines p fuel n start_thread =
-      ap (flat_map (λ t. settled_lines p fuel t start_thread)) (range_more n)
-      ∙ flat_map-append (λ t. settled_lines p fuel t start_thread) (range_with_len 0 n) (n ∷ [])
-      ∙ ap (λ ls. some ++ ls) (append-nil (settled_lines p fuel n start_thread)) in
+    ap (flat_map (λ t. settled_lines p fuel t start_thread)) (range_more n)
+    ∙ flat_map-append (λ t. settled_lines p fuel t start_thread) (range_with_len 0 n) (n ∷ [])
+    ∙ ap (λ ls. some ++ ls) (append-nil (settled_lines p fuel n start_thread)) in
     more
     ∙ ap (λ ls. ls ++ transcript_bytes (settled_lines p fuel n start_thread)) so_far
     ∙ append_assoc before (transcript_bytes some) (transcript_bytes (settled_lines p fuel n start_thread))

@@ -28,13 +28,13 @@ answered input p order m read runs =
 pub followed_done : (input : Option (Listing × List ℕ)) (p : Listing) (order : List ℕ) (first last : Table) (ends : List End) (report : List ℕ) → input ≡ Some (p, order) → first.program.now ≡ p → first.fuel ≡ fuel → (end : PlayedTo first last order) → ends ≡ map end_of (map thread_of last.players.items) → report ≡ (codes "transcript\n" ++ last.transcript.items) ++ ends_section ends → ((followed input).status ≡ Done) × ((followed input).report ≡ report)
 followed_done input p order first last ends report read program fuel_is end ended reported =
     let runs : run_of p fuel order ≡ Some end.machine =
-      sym (ap (λ q. run_of q fuel order) program)
-      ∙ sym (ap (λ f. run_of first.program.now f order) fuel_is)
-      ∙ run_of-turns first.program.now first.fuel order ∙ end.reached in
+    sym (ap (λ q. run_of q fuel order) program)
+    ∙ sym (ap (λ f. run_of first.program.now f order) fuel_is)
+    ∙ run_of-turns first.program.now first.fuel order ∙ end.reached in
     let answer = answered input p order end.machine read runs in
     let listed : ends ≡ map end_of (map stopped end.machine.threads) =
-      ended ∙ ap (map end_of) (sym end.shows.threads) ∙ sym (ends_stay end.machine.threads) in
+    ended ∙ ap (map end_of) (sym end.shows.threads) ∙ sym (ends_stay end.machine.threads) in
     let whole : report ≡ follow_report (finished end.machine) =
-      reported ∙ ap (λ lines. (codes "transcript\n" ++ lines) ++ ends_section ends) end.shows.transcript
-      ∙ ap (λ es. (codes "transcript\n" ++ transcript_bytes end.machine.transcript) ++ ends_section es) listed in
+    reported ∙ ap (λ lines. (codes "transcript\n" ++ lines) ++ ends_section ends) end.shows.transcript
+    ∙ ap (λ es. (codes "transcript\n" ++ transcript_bytes end.machine.transcript) ++ ends_section es) listed in
     (ap (λ (a : Answer). a.status) answer, ap (λ (a : Answer). a.report) answer ∙ sym whole)

@@ -39,19 +39,21 @@ answered_made old new word answers = ap (λ (s : Thread). s.made) (answers [])
 module _ (old : Player) (mid new : Run) (printed : Listed ℕ) (stop : Stop) (word : ℕ) (lines lines' : List ℕ) where
   abbrev p : Listing
   p = old.run.program
+
   abbrev fuel : ℕ
   fuel = old.run.fuel
+
   abbrev t : ℕ
   t = old.run.thread
 
   pub went_on : IsPlayer p fuel t old → IsAnswered old.run mid word → SameThread old.run mid → state new printed.items ≡ settled mid.program mid.fuel mid.thread (state mid old.printed.items) → now new.program new.thread (state new printed.items) ≡ Stands stop → SameThread mid new → NamesCell mid.program stop → 21 * (new.fuel - new.made) ≤ printed.spare → lines' ≡ lines ++ labelled old.label.items true (drop (length old.printed.items) printed.items) → WentOn p fuel t word old (record { run = new; printed = printed; stop = stop; label = old.label }) lines lines'
   went_on is answers same settles stands same' cell room shown =
       let here : state new printed.items ≡ settled p fuel t (answered p fuel t word (thread_of old)) =
-        settles
-        ∙ ap (λ q. settled q mid.fuel mid.thread (state mid old.printed.items)) same.program
-        ∙ ap (λ f. settled p f mid.thread (state mid old.printed.items)) same.fuel
-        ∙ ap (λ n. settled p fuel n (state mid old.printed.items)) same.thread
-        ∙ ap (λ s. settled p fuel t s) (answers old.printed.items) in
+      settles
+      ∙ ap (λ q. settled q mid.fuel mid.thread (state mid old.printed.items)) same.program
+      ∙ ap (λ f. settled p f mid.thread (state mid old.printed.items)) same.fuel
+      ∙ ap (λ n. settled p fuel n (state mid old.printed.items)) same.thread
+      ∙ ap (λ s. settled p fuel t s) (answers old.printed.items) in
       let whose : new.program ≡ p = same'.program ∙ same.program in
       let which : new.thread ≡ t = same'.thread ∙ same.thread in
       record {
@@ -62,8 +64,8 @@ module _ (old : Player) (mid new : Run) (printed : Listed ℕ) (stop : Stop) (wo
           stands = sym (ap (λ n. now p n (state new printed.items)) which) ∙ sym (ap (λ q. now q new.thread (state new printed.items)) whose) ∙ stands;
           cell = subst (λ (q : Listing). NamesCell q stop) same.program cell;
           room = subst (λ (f : ℕ). 21 * (f - new.made) ≤ printed.spare) (same'.fuel ∙ same.fuel) room;
-          label = is.label
+          label = is.label;
         };
         settles = here;
-        printed = shown ∙ ap (λ more. lines ++ more) (settled_labelled p fuel t (answered p fuel t word (thread_of old)) old.label.items printed.items is.label (ap (λ (s : Thread). s.out) here))
+        printed = shown ∙ ap (λ more. lines ++ more) (settled_labelled p fuel t (answered p fuel t word (thread_of old)) old.label.items printed.items is.label (ap (λ (s : Thread). s.out) here));
       }

@@ -48,7 +48,7 @@ refused first here schedule place lt inv off =
       first = refused_place-stuck p first.fuel schedule
           ∙ ap (λ ts. stuck_place p first.fuel ts begin) parts
           ∙ stuck_place-at p first.fuel front t rest begin inv.machine inv.reached stuck
-          ∙ ap Some (length-take-le place schedule le)
+          ∙ ap Some (length-take-le place schedule le);
     }
 
 pub one_more_played : (first here next : Table) (schedule : List ℕ) (place : ℕ) → place < length schedule → (inv : PlayedTo first here (take place schedule)) → IsTable next → SameGame here next → can here.program.now (slice_index schedule place) inv.machine ≡ true → Shows next (turn here.program.now here.fuel (slice_index schedule place) inv.machine) → PlayedTo first next (take (place + 1) schedule)
@@ -65,5 +65,5 @@ one_more_played first here next schedule place lt inv is game on shows =
           ∙ one_turn first.program.now first.fuel t inv.machine may
           ∙ sym (ap (λ program. Some (turn program.now first.fuel t inv.machine)) inv.game.program)
           ∙ sym (ap (λ fuel. Some (turn here.program.now fuel t inv.machine)) inv.game.fuel);
-      shows = shows
+      shows = shows;
     }

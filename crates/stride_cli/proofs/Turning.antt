@@ -40,11 +40,11 @@ cells_long (Ended end) cells = refl
 put_shown : (cells : List ℕ) (map : ℕ → ℕ) (at value count : ℕ) → at < count → count ≤ length cells → ((cell : ℕ) → cell < count → slice_index cells cell ≡ map cell) → (cell : ℕ) → cell < count → slice_index (set cells at value) cell ≡ put map at value cell
 put_shown cells map at value count inside room shown cell lt = elim (eqb_tells cell at) [
   | inl same ↦
-    let e : cell ≡ at = same.1 in
-    ap (slice_index (set cells at value)) e ∙ get_or-set_same cells at value 0 (omega arith) ∙ ap (λ b. if b then value else map cell) (sym same.0)
+      let e : cell ≡ at = same.1 in
+      ap (slice_index (set cells at value)) e ∙ get_or-set_same cells at value 0 (omega arith) ∙ ap (λ b. if b then value else map cell) (sym same.0)
   | inr other ↦
-    let differ : cell ≢ at = other.1 in
-    get_or-set_other cells at cell value 0 differ ∙ shown cell lt ∙ ap (λ b. if b then value else map cell) (sym other.0)
+      let differ : cell ≢ at = other.1 in
+      get_or-set_other cells at cell value 0 differ ∙ shown cell lt ∙ ap (λ b. if b then value else map cell) (sym other.0)
 ]
 
 cells_shown : (table : Table) (m : Machine) (stop : Stop) → IsTable table → Shows table m → NamesCell table.program.now stop → (cell : ℕ) → cell < cell_count table.program.now.decls → slice_index (cells_in stop table.cells) cell ≡ cells_after stop m.cells cell
@@ -61,8 +61,10 @@ table_after table t player cells transcript =
 module _ (table : Table) (t : ℕ) (old new : Player) (transcript : Listed ℕ) where
   abbrev p : Listing
   p = table.program.now
+
   abbrev after : Table
   after = table_after table t new (cells_in old.stop table.cells) transcript
+
   abbrev Went : Type 0
   Went = WentOn p table.fuel t (word_in old.stop table.cells) old new table.transcript.items transcript.items
 
@@ -72,14 +74,14 @@ module _ (table : Table) (t : ℕ) (old new : Player) (transcript : Listed ℕ) 
     room = omega (arith, is.room, cells_long old.stop table.cells);
     each = λ k d below. elim (eqb_tells k t) [
       | inl same ↦
-        let e : k ≡ t = same.1 in
-        let here : get_or (set table.players.items t new) k d ≡ new = ap (λ n. get_or (set table.players.items t new) n d) e ∙ get_or-set_same table.players.items t new d lt in
-        subst (λ (n : ℕ). IsPlayer p table.fuel n (get_or (set table.players.items t new) k d)) (sym e) (subst (λ (player : Player). IsPlayer p table.fuel t player) (sym here) went.player)
+          let e : k ≡ t = same.1 in
+          let here : get_or (set table.players.items t new) k d ≡ new = ap (λ n. get_or (set table.players.items t new) n d) e ∙ get_or-set_same table.players.items t new d lt in
+          subst (λ (n : ℕ). IsPlayer p table.fuel n (get_or (set table.players.items t new) k d)) (sym e) (subst (λ (player : Player). IsPlayer p table.fuel t player) (sym here) went.player)
       | inr other ↦
-        let differ : k ≢ t = other.1 in
-        let there : get_or (set table.players.items t new) k d ≡ get_or table.players.items k d = get_or-set_other table.players.items t k new d differ in
-        subst (λ (player : Player). IsPlayer p table.fuel k player) (sym there) (is.each k d (omega (arith, length-set table.players.items t new)))
-    ]
+          let differ : k ≢ t = other.1 in
+          let there : get_or (set table.players.items t new) k d ≡ get_or table.players.items k d = get_or-set_other table.players.items t k new d differ in
+          subst (λ (player : Player). IsPlayer p table.fuel k player) (sym there) (is.each k d (omega (arith, length-set table.players.items t new)))
+    ];
   }
 
   pub turn_taken : (m : Machine) → IsTable table → t < length table.players.items → old ≡ get_or table.players.items t old → IsShared old.stop → Went → Shows table m → (can p t m ≡ true) × Shows after (turn p table.fuel t m)
@@ -92,11 +94,11 @@ module _ (table : Table) (t : ℕ) (old new : Player) (transcript : Listed ℕ) 
       let by_stop = turn-standing p table.fuel t old.stop m there stands in
       let word = word_shown table m old.stop shows player.cell in
       let answer : answered p table.fuel t (word_in old.stop table.cells) (thread_of old) ≡ answered p table.fuel t (word_read old.stop m.cells) (thread_at m t) =
-        ap (λ w. answered p table.fuel t w (thread_of old)) word ∙ ap (λ s. answered p table.fuel t (word_read old.stop m.cells) s) (sym thread) in
+      ap (λ w. answered p table.fuel t w (thread_of old)) word ∙ ap (λ s. answered p table.fuel t (word_read old.stop m.cells) s) (sym thread) in
       let threads = ap (λ (k : Machine). k.threads) by_stop in
       let cells = ap (λ (k : Machine). k.cells) by_stop in
-      let lines = ap (λ (k : Machine). k.transcript) by_stop in
-      (can-standing p t old.stop m there stands ∙ passes old.stop shared,
+      let lines = ap (λ (k : Machine). k.transcript) by_stop in (
+        can-standing p t old.stop m there stands ∙ passes old.stop shared,
         record {
           threads = threads
               ∙ ap (λ xs. set xs t (settled p table.fuel t (answered p table.fuel t (word_read old.stop m.cells) (thread_at m t)))) shows.threads
@@ -108,8 +110,9 @@ module _ (table : Table) (t : ℕ) (old new : Player) (transcript : Listed ℕ) 
               ∙ ap (λ xs. xs ++ transcript_bytes (settled_lines p table.fuel t (answered p table.fuel t (word_in old.stop table.cells) (thread_of old)))) shows.transcript
               ∙ ap (λ s. transcript_bytes m.transcript ++ transcript_bytes (settled_lines p table.fuel t s)) answer
               ∙ sym (flat_map-append spelled m.transcript (settled_lines p table.fuel t (answered p table.fuel t (word_read old.stop m.cells) (thread_at m t))))
-              ∙ ap transcript_bytes (sym lines)
-        })
+              ∙ ap transcript_bytes (sym lines);
+        },
+      )
     where
       passes : (stop : Stop) → IsShared stop → may_pass stop m.holders ≡ true
       passes (Read cell) shared = refl
@@ -119,6 +122,7 @@ module _ (table : Table) (t : ℕ) (old new : Player) (transcript : Listed ℕ) 
 module _ (table : Table) (t : ℕ) (old new : Player) (transcript : Listed ℕ) (stop : Stop) (word : ℕ) where
   abbrev Answered : Type 0
   Answered = WentOn old.run.program old.run.fuel old.run.thread word old new table.transcript.items transcript.items
+
   abbrev table' : Table
   table' = table_after table t new (cells_in stop table.cells) transcript
 

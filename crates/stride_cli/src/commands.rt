@@ -4,15 +4,13 @@ ghost use Rattle.stride_base.specs.Devices.{Adds, AddsFront, Rose};
 ghost use Rattle.stride_cli.specs.Answers.{answer, commanded, Gives, HasStatus, OnDone, OnReadFault, OnWriteFault, OnRefusal};
 ghost use Rattle.stride_cli.specs.Commands.{command_named};
 
-use std::alloc::Global;
-use std::sync::ledger::Ledger;
-
-use stride_base::{Failed, InputError, List, Sink, Source, Steps, put_all, read_all};
-
 use crate::command::{Command, command_of};
 use crate::following::follow;
 use crate::refusal::Refusal;
 use crate::status::Status;
+use std::alloc::Global;
+use std::sync::ledger::Ledger;
+use stride_base::{Failed, InputError, List, Sink, Source, Steps, put_all, read_all};
 
 /// The most bytes of an input.
 const INPUT_LIMIT: usize = 268_435_456;

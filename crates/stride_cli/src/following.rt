@@ -3,16 +3,14 @@ ghost use Rattle.std.specs.Prelude.{◌≡◌, ◌≤◌, length, IfOk};
 ghost use Rattle.stride_cli.specs.Answers.{Gives, followed};
 ghost use Rattle.assembler.specs.Inputs.{input_of};
 
-use std::alloc::Global;
-
-use assembler::read_input;
-use stride_base::List;
-use stride_isa::check;
-
 use crate::playing::{ends_of, play};
 use crate::refusal::Refusal;
 use crate::report::put_ends;
 use crate::table::Table;
+use assembler::read_input;
+use std::alloc::Global;
+use stride_base::List;
+use stride_isa::check;
 
 /// How many instructions each thread may make.
 const FUEL: u32 = 100_000;

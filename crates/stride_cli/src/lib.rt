@@ -9,7 +9,6 @@
 mod command;
 mod commands;
 mod following;
-
 mod player;
 mod playing;
 mod refusal;

@@ -2,13 +2,11 @@
 ghost use Rattle.std.specs.Prelude.{◌≡◌, ◌++◌, ◌<◌, ◌≤◌, ℕ, OnOk, IfOk, unwrap_or, length, true};
 ghost use Rattle.std.specs.List.{slice_index_or};
 
-use std::alloc::Global;
-
+use crate::report::{put_labelled, put_number};
 use sc_machine::{End, Stop, ThreadRun};
+use std::alloc::Global;
 use stride_base::{List, NoMemory};
 use stride_isa::Checked;
-
-use crate::report::{put_number, put_labelled};
 
 /// The most bytes that one instruction prints: the digits of a word and a line feed.
 const LINE_LIMIT: usize = 21;

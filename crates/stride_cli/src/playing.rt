@@ -5,13 +5,11 @@ ghost use Rattle.sc_machine.specs.Machine.{Machine};
 ghost use Rattle.sc_machine.specs.Schedule.{ready};
 ghost use Rattle.stride_cli.specs.Playing.{ArePlaying, IsTable, Shows, Plays, thread_of};
 
-use std::alloc::Global;
-
-use sc_machine::End;
-use stride_base::{List, NoMemory};
-
 use crate::player::Player;
 use crate::table::Table;
+use sc_machine::End;
+use std::alloc::Global;
+use stride_base::{List, NoMemory};
 
 /// Why a schedule was not played to its end.
 #[derive(Clone, Copy, Debug, PartialEq, Eq)]

@@ -1,12 +1,11 @@
 //! Why a command that has read its input made no report.
 ghost use Rattle.std.specs.Prelude.{◌≡◌};
 
+use crate::playing::PlayError;
+use crate::status::{ProgramFault, Status};
 use assembler::AsmError;
 use stride_base::NoMemory;
 use stride_isa::CheckError;
-
-use crate::playing::PlayError;
-use crate::status::{ProgramFault, Status};
 
 /// Why a command that has read its input made no report.
 #[derive(Debug, Drop)]

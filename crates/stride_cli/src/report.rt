@@ -3,9 +3,8 @@ ghost use Rattle.std.specs.Prelude.{◌≡◌, ◌+◌, ◌≤◌, ◌<◌, ◌+
 ghost use Rattle.stride_cli.specs.Playing.{labelled};
 ghost use Rattle.stride_cli.specs.Reports.{trap_word, end_words, end_lines, ends_section};
 
-use std::alloc::Global;
-
 use sc_machine::{End, Trap};
+use std::alloc::Global;
 use stride_base::{List, NoMemory};
 
 fn trap_text(trap: Trap) -> &'static [u8]

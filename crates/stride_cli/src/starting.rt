@@ -7,13 +7,11 @@ ghost use Rattle.sc_machine.specs.Schedule.{settled_lines};
 ghost use Rattle.sc_machine.specs.Transcript.{transcript_bytes};
 ghost use Rattle.stride_cli.specs.Playing.{ArePlayers, thread_of};
 
-use std::alloc::Global;
-
-use stride_base::{List, NoMemory};
-use stride_isa::Checked;
-
 use crate::player::Player;
 use crate::table::CELL_LIMIT;
+use std::alloc::Global;
+use stride_base::{List, NoMemory};
+use stride_isa::Checked;
 
 /// A player for each thread, in order of number. What they print on the way is appended to the transcript.
 pub fn start_players<'p>(

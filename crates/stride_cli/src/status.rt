@@ -1,9 +1,8 @@
 //! How a command ends.
 ghost use Rattle.std.specs.Prelude.{◌≡◌};
 
-use std::fmt;
-
 use assembler::AsmKind;
+use std::fmt;
 use thiserror::Error;
 
 /// Why a program was refused.
@@ -64,7 +63,10 @@ impl fmt::Display for Status {
             Status::TooLong => write!(f, "the input has more than 268435456 bytes"),
             Status::Program { fault } => write!(f, "{fault}"),
             Status::NotEnabled { place } => {
-                write!(f, "place {place} of the order: that thread cannot take a turn")
+                write!(
+                    f,
+                    "place {place} of the order: that thread cannot take a turn"
+                )
             }
             Status::WriteFault => write!(f, "the report could not be written"),
             Status::NoMemory => write!(f, "memory ran out"),

@@ -1,14 +1,12 @@
 //! The machine that plays a schedule: all threads over one row of cells.
 ghost use Rattle.std.specs.Prelude.{◌≡◌, ◌<◌, ◌≤◌, IfOk, length};
 
-use std::alloc::Global;
-
-use sc_machine::Stop;
-use stride_base::{List, NoMemory};
-use stride_isa::Checked;
-
 use crate::player::Player;
 use crate::starting::{start_players, starting_cells};
+use sc_machine::Stop;
+use std::alloc::Global;
+use stride_base::{List, NoMemory};
+use stride_isa::Checked;
 
 /// The most cells of a program.
 pub const CELL_LIMIT: usize = 256;

@@ -108,7 +108,7 @@ kept_empty = record {
   cells = refl;
   instructions = refl;
   long = refl;
-  firsts_at = λ at h. absurd (omega arith)
+  firsts_at = λ at h. absurd (omega arith);
 }
 
 pub kept_decl : (p : Listing) (firsts : List ℕ) (c n : ℕ) (d : Decl) → IsKept p firsts c n → HasSize d.shape → is_taken p d.name ≡ false → c + cells_of d.shape ≤ 256 → IsKept (with_decl p d) (firsts ++ c ∷ []) (c + cells_of d.shape) n
@@ -121,16 +121,16 @@ kept_decl p firsts c n d h size free fits =
       cells = omega (arith, count, h.cells);
       instructions = h.instructions;
       long = omega (arith, length-append firsts (c ∷ []), length-append p.decls (d ∷ []), h.long);
-      firsts_at = λ at below. first_after at (omega (arith, length-append p.decls (d ∷ []), below))
+      firsts_at = λ at below. first_after at (omega (arith, length-append p.decls (d ∷ []), below));
     }
   where
     first_after : (at : ℕ) → at ≤ length p.decls → slice_index (firsts ++ c ∷ []) at ≡ first_cell (p.decls ++ d ∷ []) at
     first_after at le = elim (cases_lt at (length p.decls)) [
       | inl lt ↦ get_or-append firsts (c ∷ []) 0 at (omega (arith, h.long)) ∙ h.firsts_at at lt ∙ ap cell_count (sym (take-append-le at p.decls (d ∷ []) (omega arith)))
       | inr ge ↦
-        let same : at ≡ length p.decls = omega arith in
-        let there : at ≡ length firsts = omega (arith, h.long) in
-        ap (slice_index (firsts ++ c ∷ [])) there ∙ get_or-append_seam firsts c [] 0 ∙ h.cells ∙ ap cell_count (sym (take-append_seam p.decls (d ∷ []))) ∙ ap (first_cell (p.decls ++ d ∷ [])) (sym same)
+          let same : at ≡ length p.decls = omega arith in
+          let there : at ≡ length firsts = omega (arith, h.long) in
+          ap (slice_index (firsts ++ c ∷ [])) there ∙ get_or-append_seam firsts c [] 0 ∙ h.cells ∙ ap cell_count (sym (take-append_seam p.decls (d ∷ []))) ∙ ap (first_cell (p.decls ++ d ∷ [])) (sym same)
     ]
 
 pub kept_monitor : (p : Listing) (firsts : List ℕ) (c n : ℕ) (name : List ℕ) → IsKept p firsts c n → is_taken p name ≡ false → length p.monitors < 64 → IsKept (with_monitor p name) firsts c n
@@ -141,7 +141,7 @@ kept_monitor p firsts c n name h free fits = record {
   cells = h.cells;
   instructions = h.instructions;
   long = h.long;
-  firsts_at = h.firsts_at
+  firsts_at = h.firsts_at;
 }
 
 pub kept_thread : (p : Listing) (firsts : List ℕ) (c n : ℕ) → IsKept p firsts c n → length p.threads < 16 → IsKept (with_thread p) firsts c n
@@ -154,7 +154,7 @@ kept_thread p firsts c n h fits =
       cells = h.cells;
       instructions = omega (arith, count, h.instructions);
       long = h.long;
-      firsts_at = h.firsts_at
+      firsts_at = h.firsts_at;
     }
 
 pub kept_op : (p : Listing) (firsts : List ℕ) (c n : ℕ) (op : Op) → IsKept p firsts c n → 0 < length p.threads → n < 65536 → IsKept (with_op p op) firsts c (n + 1)
@@ -167,7 +167,7 @@ kept_op p firsts c n op h some fits =
       cells = h.cells;
       instructions = omega (arith, count, h.instructions);
       long = h.long;
-      firsts_at = h.firsts_at
+      firsts_at = h.firsts_at;
     }
 
 -- no thread has more instructions than all threads together

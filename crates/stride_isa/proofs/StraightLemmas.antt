@@ -96,9 +96,9 @@ fine p thread at depth h reaches =
       enough = s.enough;
       room = s.room;
       inside = λ next leads.
-        let goes = along p.decls depth (op_at p thread at) (drop (at + 1) (code_of p thread)) at next leads now in
-        rw goes.0 (inside p thread (at + 1) (depth_after (op_at p thread at) depth) goes.1);
-      names = s.names
+          let goes = along p.decls depth (op_at p thread at) (drop (at + 1) (code_of p thread)) at next leads now in
+          rw goes.0 (inside p thread (at + 1) (depth_after (op_at p thread at) depth) goes.1);
+      names = s.names;
     }
 
 each : (decls : List Decl) (codes : List (List Op)) (thread : ℕ) → list_all (is_straight_from decls 0) codes ≡ true → thread < length codes → is_straight_from decls 0 (slice_index_or codes thread []) ≡ true
@@ -109,5 +109,5 @@ each decls (code ∷ codes) (suc thread) h lt = each decls codes thread (both_tr
 pub straight_valid : (p : Listing) → is_straight p ≡ true → IsValid p
 straight_valid p h = record {
   code = λ thread lt. no_code p.decls 0 (code_of p thread) (each p.decls p.threads thread h lt);
-  fine = λ thread at depth lt reaches. fine p thread at depth (each p.decls p.threads thread h lt) reaches
+  fine = λ thread at depth lt reaches. fine p thread at depth (each p.decls p.threads thread h lt) reaches;
 }

@@ -5,13 +5,12 @@ ghost use Rattle.stride_isa.specs.Listing.{cell_count, cells_of, first_cell, sta
 ghost use Rattle.stride_isa.specs.Straight.{is_straight as goes_straight};
 ghost use Rattle.stride_isa.specs.Validity.{IsFine, IsValid, Reaches};
 
-use std::alloc::Global;
-use std::marker::Model;
-
 use crate::decl::Decl;
 use crate::name::Name;
 use crate::op::Op;
 use crate::program::Program;
+use std::alloc::Global;
+use std::marker::Model;
 
 /// Why a program was not checked.
 #[derive(Clone, Copy, Debug, PartialEq, Eq)]

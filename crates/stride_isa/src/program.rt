@@ -6,12 +6,11 @@ ghost use Rattle.stride_isa.specs.Listing.{empty, is_taken, cell_count, cells_of
 ghost use Rattle.stride_isa.specs.Kept.{HasSize};
 ghost use Rattle.stride_isa.specs.declared.program.AddError.TheVariants.{NoMemory};
 
-use std::alloc::{AllocError, AllocFailed, Global};
-use std::marker::Model;
-
 use crate::decl::{Decl, Shape};
 use crate::name::Name;
 use crate::op::Op;
+use std::alloc::{AllocError, AllocFailed, Global};
+use std::marker::Model;
 
 /// The most threads of a program.
 pub const THREAD_LIMIT: usize = 16;

@@ -2,9 +2,8 @@
 ghost use Rattle.std.specs.Prelude.{◌≡◌, IfSome};
 ghost use Rattle.stride_isa.specs.declared.decl.Shape.TheVariants.{Single};
 
-use std::test::Fail;
-
 use super::*;
+use std::test::Fail;
 
 fn named(bytes: &[u8]) -> Option<Name> {
     Name::of(bytes)
@@ -16,7 +15,14 @@ fn names(rt: HostRuntime) {
     for bytes in good {
         assert!(rt; named(bytes).is_some());
     }
-    let bad: [&[u8]; 6] = [b"", b"1a", b"a-b", b"a b", b"\xc3\xa4", b"abcdefghijklmnopqrstuvwxyz0123456"];
+    let bad: [&[u8]; 6] = [
+        b"",
+        b"1a",
+        b"a-b",
+        b"a b",
+        b"\xc3\xa4",
+        b"abcdefghijklmnopqrstuvwxyz0123456",
+    ];
     for bytes in bad {
         assert!(rt; named(bytes).is_none());
     }

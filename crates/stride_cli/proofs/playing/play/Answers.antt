@@ -1,5 +1,4 @@
 use Rattle.std.specs.Bool.{MatchBool}
-
 use Rattle.sc_machine.specs.Machine.{can}
 use Rattle.sc_machine.specs.Schedule.{turn}
 use Rattle.stride_cli.specs.Playing.{Shows}

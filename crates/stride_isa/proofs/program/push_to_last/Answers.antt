@@ -8,7 +8,7 @@ pub returns-in_err-push-clause-err : goal.returns-in_err-push-clause-err
 returns-in_err-push-clause-err c =
     MatchResult-from_err c.from_residual.result _ _ c.from_residual.ensures.0
     (λ _. map-set_same (λ code. code.items) c.args.threads.now.items _ c.push.new.self c.index_mut.result.now
-      (c.in_err-push.ensures.items ∙ ap (λ code. code.items) c.index_mut.ensures.value))
+    (c.in_err-push.ensures.items ∙ ap (λ code. code.items) c.index_mut.ensures.value))
 
 pub returns-clause-added : goal.returns-clause-added
 returns-clause-added c =

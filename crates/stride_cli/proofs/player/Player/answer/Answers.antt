@@ -18,7 +18,7 @@ pub returns : goal.returns
 returns c = record {
   went_on = on_ok_weaker c.put_labelled.result
       (λ shown. went_on c.args.self.now c.answer.new.self c.local-self.new.self c.local-self.new.out c.local-self.result (unwrap_or c.args.word 0) c.args.transcript.now.items c.put_labelled.new.report.items
-        c.requires.player c.answer.ensures.state c.answer.ensures.same c.local-self.ensures.state c.local-self.ensures.stands c.local-self.ensures.same c.local-self.ensures.names_cell c.local-self.ensures.spare
-        (rw (c.as_slice-2.ensures, c.split_at.ensures.back, c.as_slice.ensures, c.len-before.ensures.len) at shown))
-      c.put_labelled.ensures
+      c.requires.player c.answer.ensures.state c.answer.ensures.same c.local-self.ensures.state c.local-self.ensures.stands c.local-self.ensures.same c.local-self.ensures.names_cell c.local-self.ensures.spare
+      (rw (c.as_slice-2.ensures, c.split_at.ensures.back, c.as_slice.ensures, c.len-before.ensures.len) at shown))
+      c.put_labelled.ensures;
 }

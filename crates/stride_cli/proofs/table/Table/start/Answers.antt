@@ -20,5 +20,5 @@ returns-clause-shows c =
       cells = λ cell below. c.starting_cells.ensures.starts cell below ∙ ap (λ (m : Machine). m.cells cell) (sym begun);
       transcript = c.in_ok-players.ensures.printed
           ∙ ap (λ xs. xs ++ transcript_bytes (flat_map (λ t. settled_lines c.args.program.now c.args.fuel t start_thread) (range_with_len 0 (length c.args.program.now.threads)))) c.new-transcript.ensures.items
-          ∙ ap (λ (m : Machine). transcript_bytes m.transcript) (sym begun)
+          ∙ ap (λ (m : Machine). transcript_bytes m.transcript) (sym begun);
     }
