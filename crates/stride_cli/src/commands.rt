@@ -39,6 +39,7 @@ pub fn offline<S: Source, K: Sink, L: Ledger>(
     // The status with its details, but for a device's fault and want of memory.
     ensures status { IfSome (S.left source.old) (λ bytes. HasStatus result (answer (map (λ word. word.now) words.entry.now) bytes).status) }
     ensures usage { (result ≡ Status.Usage) ↔ (command_named (map (λ word. word.now) words.entry.now) ≡ None) }
+    ensures unread { result ≡ Status.Usage → source.new ≡ source.old }
 
     // The report: whole where the command is done, a front of it where it could not be put, and nothing otherwise.
     ensures report { OnDone result (IfSome (S.left source.old) (λ bytes. Adds (K.held sink.old) (K.held sink.new) (answer (map (λ word. word.now) words.entry.now) bytes).report)) }
@@ -49,6 +50,7 @@ pub fn offline<S: Source, K: Sink, L: Ledger>(
     // A fault is answered only where the device's count rose in this call.
     ensures read_fault { OnReadFault result (Rose (S.faults source.old) (S.faults source.new)) }
     ensures write_fault { OnWriteFault result (Rose (K.faults sink.old) (K.faults sink.new)) }
+    ensures counted { (S.faults source.old ≤ S.faults source.new) × (K.faults sink.old ≤ K.faults sink.new) }
 
     ensures steps { _steps.new ≡ _steps.old }
 {
