@@ -1,18 +1,18 @@
 -- What is added to a program keeps its counts, its first cells and its names in step.
-use Rattle.std.proofs.Common.{◌≡◌, ℕ, ◌+◌, ◌<◌, ◌≤◌, ◌∙◌, ◌||◌, Bool, true, false, List, [], ◌∷◌, ◌++◌, length, take, map, refl, sym, ap, subst, arith, zero-add, add_assoc, append_assoc, length-append, slice_index, get_or, inl, inr, ◌⊎◌, rules, zero, suc, drop, set}
-use Rattle.std.specs.List.{IsDistinct, AllByRecursion, list_any, slice_index_or, sum_by}
+use Rattle.std.proofs.Common.{◌≡◌, ℕ, ◌+◌, ◌<◌, ◌≤◌, ◌∙◌, ◌||◌, Bool, true, false, List, [], ◌∷◌, ◌++◌, length, map, refl, sym, ap, subst, arith, append_assoc, length-append, slice_index, get_or, inl, inr, zero, suc, set}
+use Rattle.std.specs.List.{IsDistinct, AllByRecursion, list_any, slice_index_or}
 use Rattle.std.specs.Str.{bytes_eq}
 use Rattle.std.proofs.lemmas.Bool.{cases_lt}
 use Rattle.std.proofs.lemmas.Cmp.{nat_list_eq_equiv}
 use Rattle.std.proofs.lemmas.List.{take-append-le, map-append, append-nil}
 use Rattle.std.proofs.lemmas.List.Sums.{sum_by_push, sum_by-cons}
 use Rattle.std.proofs.Math.ListN.{get_or-append}
-use Rattle.std.proofs.Math.Seq.{get_or-append_seam, take-append_seam, take-length}
+use Rattle.std.proofs.Math.Seq.{get_or-append_seam, take-append_seam}
 use Rattle.stride_isa.specs.declared.decl.Decl.{Decl}
 use Rattle.stride_isa.specs.declared.decl.Shape.{Shape}
 use Rattle.stride_isa.specs.declared.op.Op.{Op}
 use Rattle.stride_isa.specs.declared.decl.Shape.TheVariants.{Single, Array}
-use Rattle.stride_isa.specs.Listing.{Listing, empty, is_taken, names_of, cells_of, cell_count, first_cell, instruction_count, push_last, with_decl, with_monitor, with_thread, with_op, IsWithinLimits}
+use Rattle.stride_isa.specs.Listing.{Listing, empty, is_taken, names_of, cells_of, cell_count, first_cell, instruction_count, push_last, with_decl, with_monitor, with_thread, with_op}
 use Rattle.stride_isa.specs.Kept.{HasSize, IsKept}
 
 -- neither of two tests passes

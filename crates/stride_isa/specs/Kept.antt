@@ -2,7 +2,6 @@
 use Rattle.std.specs.Prelude.{◌≡◌, ℕ, ◌<◌, ◌≤◌, List, length, slice_index}
 use Rattle.std.specs.List.{IsDistinct, AllByRecursion}
 use Rattle.std.specs.Str.{bytes_eq}
-use Rattle.stride_isa.specs.declared.decl.Decl.{Decl}
 use Rattle.stride_isa.specs.declared.decl.Shape.{Shape}
 use Rattle.stride_isa.specs.declared.decl.Shape.TheVariants.{Single, Array}
 use Rattle.stride_isa.specs.Listing.{Listing, IsWithinLimits, names_of, cell_count, first_cell, instruction_count}

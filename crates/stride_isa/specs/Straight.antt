@@ -1,8 +1,9 @@
--- Code without jumps: the form that every program has until there are jumps and the check of reachable pairs.
-use Rattle.std.specs.Prelude.{ℕ, ◌+◌, ◌-◌, ◌&&◌, Bool, true, false, List, [], ◌∷◌, nat_le}
+-- Straight code: pushes, reads, writes and prints with a halt at the end. It is valid without a search for the pairs
+-- that it reaches.
+use Rattle.std.specs.Prelude.{ℕ, ◌&&◌, Bool, true, false, List, [], ◌∷◌, nat_le}
 use Rattle.std.specs.Option.{option_map_or}
 use Rattle.std.specs.List.{list_all, slice_get}
-use Rattle.stride_isa.specs.Instructions.{kind, popped, pushed}
+use Rattle.stride_isa.specs.Instructions.{kind, popped}
 use Rattle.stride_isa.specs.Listing.{Listing}
 use Rattle.stride_isa.specs.Validity.{stack_limit, depth_after}
 use Rattle.stride_isa.specs.declared.decl.Decl.{Decl}
@@ -29,9 +30,18 @@ abbrev pub is_last : List Op → Bool
 is_last [] = true
 is_last (op ∷ ops) = false
 
--- an instruction that goes on to the next has its operands, room for its results, and its names
+-- whether straight code may have it: a push, a read, a write, a print or a halt
+abbrev pub is_plain : Op → Bool
+is_plain (Push word) = true
+is_plain (Read decl) = true
+is_plain (Write decl) = true
+is_plain Print = true
+is_plain Halt = true
+is_plain op = false
+
+-- an instruction of straight code has its operands, room for its results, and its names
 abbrev pub is_sound : List Decl → ℕ → Op → Bool
-is_sound decls depth op = nat_le (popped (kind op)) depth && (nat_le (depth_after op depth) stack_limit && names_declared decls op)
+is_sound decls depth op = is_plain op && (nat_le (popped (kind op)) depth && (nat_le (depth_after op depth) stack_limit && names_declared decls op))
 
 -- code that begins at this depth ends with its only halt, and each instruction before that is sound
 abbrev pub is_straight_from : List Decl → ℕ → List Op → Bool

@@ -1,28 +1,46 @@
 -- Which programs are valid: by the pairs of position and stack depth that a thread can reach.
-use Rattle.std.specs.Prelude.{◌≡◌, ℕ, ◌+◌, ◌-◌, ◌<◌, ◌≤◌, length}
+use Rattle.std.specs.Prelude.{◌≡◌, ℕ, ◌+◌, ◌-◌, ◌<◌, ◌≤◌, ◌⊎◌, length}
 use Rattle.stride_isa.specs.Instructions.{kind, popped, pushed}
 use Rattle.stride_isa.specs.Listing.{Listing, code_of, op_at, decl_at}
-use Rattle.stride_isa.specs.declared.decl.Shape.TheVariants.{Single}
+use Rattle.stride_isa.specs.declared.decl.Shape.{Shape}
+use Rattle.stride_isa.specs.declared.decl.Shape.TheVariants.{Single, Array}
 use Rattle.stride_isa.specs.declared.op.Op.{Op}
-use Rattle.stride_isa.specs.declared.op.Op.TheVariants.{Push, Read, Write, Print, Halt}
+use Rattle.stride_isa.specs.declared.op.Op.TheVariants.{Get, Set, Jump, Jz, Jnz, Read, Write, ReadAt, WriteAt, Enter, Exit, Halt}
 
 -- the most words on an operand stack
 abbrev pub stack_limit : ℕ
 stack_limit = 64
 
+-- how many locals a thread has
+abbrev pub local_count : ℕ
+local_count = 16
+
 -- the depth of the stack after an instruction
 abbrev pub depth_after : Op → ℕ → ℕ
 depth_after op depth = depth - popped (kind op) + pushed (kind op)
 
--- the instruction at a position may be followed by the one at the next
+-- the position of the next instruction, after one instruction at a position
 abbrev pub Leads : Op → ℕ → ℕ → Type 0
+Leads (Jump target) at next = next ≡ target
+Leads (Jz target) at next = (next ≡ target) ⊎ (next ≡ at + 1)
+Leads (Jnz target) at next = (next ≡ target) ⊎ (next ≡ at + 1)
 Leads Halt at next = ⊥
 Leads op at next = next ≡ at + 1
 
--- what an access names is declared, and of the access's shape
+abbrev pub IsArray : Shape → Type 0
+IsArray Single = ⊥
+IsArray (Array size) = Unit {0}
+
+-- what an instruction names is there: a variable, an array or a monitor that is declared, or a local
 abbrev pub Names : Listing → Op → Type 0
+Names p (Get local) = local < local_count
+Names p (Set local) = local < local_count
 Names p (Read decl) = (decl < length p.decls) × ((decl_at p decl).shape ≡ Single)
 Names p (Write decl) = (decl < length p.decls) × ((decl_at p decl).shape ≡ Single)
+Names p (ReadAt decl) = (decl < length p.decls) × IsArray (decl_at p decl).shape
+Names p (WriteAt decl) = (decl < length p.decls) × IsArray (decl_at p decl).shape
+Names p (Enter monitor) = monitor < length p.monitors
+Names p (Exit monitor) = monitor < length p.monitors
 Names p op = Unit {0}
 
 -- the pairs of position and depth that a thread reaches: the least set that holds the start and, with each pair

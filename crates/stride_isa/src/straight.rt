@@ -1,8 +1,8 @@
-//! The test for code without jumps, which stands in for the check of reachable pairs until there are jumps.
+//! The test for code of pushes, reads, writes and prints with a halt at its end.
 ghost use Rattle.std.specs.Prelude.{◌≡◌, ◌≤◌};
 ghost use Rattle.std.specs.List.{list_all};
 ghost use Rattle.stride_isa.specs.Instructions.{kind, popped, pushed};
-ghost use Rattle.stride_isa.specs.Straight.{declares_single, names_declared as are_names_declared, is_sound as is_sound_at, is_straight_from as goes_straight, is_straight as goes_straight_whole};
+ghost use Rattle.stride_isa.specs.Straight.{declares_single, is_plain as is_plain_op, names_declared as are_names_declared, is_sound as is_sound_at, is_straight_from as goes_straight, is_straight as goes_straight_whole};
 ghost use Rattle.stride_isa.specs.Validity.{depth_after as depth_behind};
 
 use crate::decl::{Decl, Shape};
@@ -25,8 +25,17 @@ fn names_declared(decls: &[Decl], op: Op) -> bool
 {
     match op {
         Op::Read(decl) | Op::Write(decl) => is_single(decls, decl),
-        Op::Push(_) | Op::Print | Op::Halt => true,
+        _ => true,
     }
+}
+
+fn is_plain(op: Op) -> bool
+    ensures { result ≡ is_plain_op op }
+{
+    matches!(
+        op,
+        Op::Push(_) | Op::Read(_) | Op::Write(_) | Op::Print | Op::Halt
+    )
 }
 
 fn is_sound(decls: &[Decl], depth: usize, op: Op) -> bool
@@ -35,7 +44,8 @@ fn is_sound(decls: &[Decl], depth: usize, op: Op) -> bool
 {
     let (pops, pushes) = effect(kind_of(op));
     let (pops, pushes) = (usize::from(pops), usize::from(pushes));
-    pops <= depth && (depth - pops + pushes <= STACK_LIMIT && names_declared(decls, op))
+    is_plain(op)
+        && (pops <= depth && (depth - pops + pushes <= STACK_LIMIT && names_declared(decls, op)))
 }
 
 fn depth_after(depth: usize, op: Op) -> usize
@@ -72,8 +82,8 @@ fn are_straight(decls: &[Decl], threads: &[Vec<Op>]) -> bool
 }
 
 impl Program {
-    /// Whether each thread's code ends with its only halt and, run from an empty stack without a jump, has at each
-    /// instruction its operands, room for its results and the variable that it names.
+    /// Whether each thread's code ends with its only halt and before that has only pushes, reads, writes and prints,
+    /// each of which, run from an empty stack, has its operands, room for its results and the variable that it names.
     pub fn is_straight(&self) -> bool
         ensures { result ≡ goes_straight_whole self.now }
     {

@@ -30,18 +30,62 @@ fn names(rt: HostRuntime) {
 
 #[test]
 fn instructions_by_name(rt: HostRuntime) {
-    let rows: [(&[u8], Option<(OpKind, u8, u8)>); 7] = [
-        (b"push", Some((OpKind::Push, 0, 1))),
-        (b"read", Some((OpKind::Read, 0, 1))),
-        (b"write", Some((OpKind::Write, 1, 0))),
-        (b"print", Some((OpKind::Print, 1, 0))),
-        (b"halt", Some((OpKind::Halt, 0, 0))),
-        (b"Halt", None),
-        (b"pus", None),
+    let rows: [(&[u8], OpKind, u8, u8); 31] = [
+        (b"push", OpKind::Push, 0, 1),
+        (b"dup", OpKind::Dup, 1, 2),
+        (b"drop", OpKind::Drop, 1, 0),
+        (b"swap", OpKind::Swap, 2, 2),
+        (b"over", OpKind::Over, 2, 3),
+        (b"add", OpKind::Add, 2, 1),
+        (b"sub", OpKind::Sub, 2, 1),
+        (b"mul", OpKind::Mul, 2, 1),
+        (b"div", OpKind::Div, 2, 1),
+        (b"rem", OpKind::Rem, 2, 1),
+        (b"and", OpKind::And, 2, 1),
+        (b"or", OpKind::Or, 2, 1),
+        (b"xor", OpKind::Xor, 2, 1),
+        (b"shl", OpKind::Shl, 2, 1),
+        (b"shr", OpKind::Shr, 2, 1),
+        (b"eq", OpKind::Eq, 2, 1),
+        (b"lt", OpKind::Lt, 2, 1),
+        (b"not", OpKind::Not, 1, 1),
+        (b"get", OpKind::Get, 0, 1),
+        (b"set", OpKind::Set, 1, 0),
+        (b"jump", OpKind::Jump, 0, 0),
+        (b"jz", OpKind::Jz, 1, 0),
+        (b"jnz", OpKind::Jnz, 1, 0),
+        (b"read", OpKind::Read, 0, 1),
+        (b"write", OpKind::Write, 1, 0),
+        (b"readat", OpKind::ReadAt, 1, 1),
+        (b"writeat", OpKind::WriteAt, 2, 0),
+        (b"enter", OpKind::Enter, 0, 0),
+        (b"exit", OpKind::Exit, 0, 0),
+        (b"print", OpKind::Print, 1, 0),
+        (b"halt", OpKind::Halt, 0, 0),
     ];
-    for (word, want) in rows {
-        let found = op_named(word).map(|kind| (kind, effect(kind).0, effect(kind).1));
-        assert!(rt; found == want);
+    for (word, kind, pops, pushes) in rows {
+        assert!(rt; op_named(word) == Some(kind));
+        assert!(rt; name_of(kind).as_bytes() == word);
+        assert!(rt; effect(kind) == (pops, pushes));
+    }
+    let wrong: [&[u8]; 6] = [b"", b"Halt", b"pus", b"readat ", b"jnzz", b"call"];
+    for word in wrong {
+        assert!(rt; op_named(word).is_none());
+    }
+}
+
+#[test]
+fn kinds_of_instructions(rt: HostRuntime) {
+    let rows: [(Op, OpKind); 6] = [
+        (Op::Push(7), OpKind::Push),
+        (Op::Xor, OpKind::Xor),
+        (Op::Get(15), OpKind::Get),
+        (Op::Jnz(2), OpKind::Jnz),
+        (Op::ReadAt(1), OpKind::ReadAt),
+        (Op::Exit(0), OpKind::Exit),
+    ];
+    for (op, kind) in rows {
+        assert!(rt; kind_of(op) == kind);
     }
 }
 
@@ -85,5 +129,27 @@ fn straight_code_is_checked(rt: HostRuntime) -> Result<(), Fail> {
     assert_eq!(rt; checked.code_len(0), 5);
     assert!(rt; checked.op(0, 1) == Op::Write(0));
     assert_eq!(rt; checked.start_of(0), 7);
+    Ok(())
+}
+
+#[test]
+fn other_code_is_not_straight(rt: HostRuntime) -> Result<(), Fail> {
+    let rows: [Op; 5] = [
+        Op::Dup,
+        Op::Set(0),
+        Op::Jump(1),
+        Op::Enter(0),
+        Op::WriteAt(0),
+    ];
+    for op in rows {
+        let mut program = Program::new(rt.alloc());
+        program.add_monitor(Name::of(b"m").ok_or("a name")?)?;
+        program.add_thread()?;
+        program.add_op(Op::Push(1))?;
+        program.add_op(Op::Push(2))?;
+        program.add_op(op)?;
+        program.add_op(Op::Halt)?;
+        assert!(rt; !program.is_straight());
+    }
     Ok(())
 }

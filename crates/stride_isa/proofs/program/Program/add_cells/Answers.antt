@@ -1,4 +1,4 @@
-use Rattle.std.proofs.Common.{◌≡◌, ◌+◌, ◌≤◌, ◌∙◌, arith, sym, false}
+use Rattle.std.proofs.Common.{◌+◌, ◌≤◌, ◌∙◌, arith, sym}
 use Rattle.stride_isa.specs.Listing.{cells_of}
 use Rattle.stride_isa.proofs.KeptLemmas.{kept_decl, length_le_cells}
 use Rattle.stride_isa.proofs.program.Program.add_cells.Goals as goal

@@ -1,4 +1,4 @@
-use Rattle.std.proofs.Common.{◌≡◌, ◌<◌, ◌∙◌, arith, sym, length}
+use Rattle.std.proofs.Common.{◌<◌, ◌∙◌, arith, sym, length}
 use Rattle.stride_isa.proofs.KeptLemmas.{kept_monitor}
 use Rattle.stride_isa.proofs.program.Program.add_monitor.Goals as goal
 

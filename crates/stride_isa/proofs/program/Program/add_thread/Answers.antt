@@ -1,4 +1,4 @@
-use Rattle.std.proofs.Common.{◌<◌, arith, length}
+use Rattle.std.proofs.Common.{arith}
 use Rattle.std.proofs.lemmas.List.{length-map, map-append}
 use Rattle.stride_isa.proofs.KeptLemmas.{kept_thread}
 use Rattle.stride_isa.proofs.program.Program.add_thread.Goals as goal

@@ -1,6 +1,5 @@
-use Rattle.std.proofs.Common.{◌≡◌, ◌≤◌, ◌<◌, arith, length, map}
+use Rattle.std.proofs.Common.{arith}
 use Rattle.std.proofs.lemmas.List.{length-map}
-use Rattle.stride_isa.specs.Listing.{instruction_count}
 use Rattle.stride_isa.proofs.KeptLemmas.{code_within}
 use Rattle.stride_isa.proofs.program.Program.code_len.Goals as goal
 
