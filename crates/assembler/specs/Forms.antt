@@ -4,7 +4,7 @@ use Rattle.std.specs.Str.{bytes_eq}
 use Rattle.stride_isa.specs.Instructions.{spelling}
 use Rattle.stride_isa.specs.Names.{is_name}
 use Rattle.stride_isa.specs.declared.op.OpKind.{OpKind}
-use Rattle.stride_isa.specs.declared.op.OpKind.TheVariants.{Push, Read, Write, Print, Halt}
+use Rattle.stride_isa.specs.declared.op.OpKind.TheVariants as kinds
 use Rattle.assembler.specs.Numbers.{number}
 use Rattle.assembler.specs.declared.keyword.Keyword.{Keyword}
 use Rattle.assembler.specs.declared.keyword.Keyword.TheVariants as keywords
@@ -20,9 +20,13 @@ pub data Form : Type 0 where
   HaltLine : Form
   Malformed : Form
 
+-- all instructions, in the order of the table
+abbrev pub all_kinds : List OpKind
+all_kinds = kinds.Push ∷ kinds.Dup ∷ kinds.Drop ∷ kinds.Swap ∷ kinds.Over ∷ kinds.Add ∷ kinds.Sub ∷ kinds.Mul ∷ kinds.Div ∷ kinds.Rem ∷ kinds.And ∷ kinds.Or ∷ kinds.Xor ∷ kinds.Shl ∷ kinds.Shr ∷ kinds.Eq ∷ kinds.Lt ∷ kinds.Not ∷ kinds.Get ∷ kinds.Set ∷ kinds.Jump ∷ kinds.Jz ∷ kinds.Jnz ∷ kinds.Read ∷ kinds.Write ∷ kinds.ReadAt ∷ kinds.WriteAt ∷ kinds.Enter ∷ kinds.Exit ∷ kinds.Print ∷ kinds.Halt ∷ []
+
 -- the instruction of this name
 abbrev pub kind_named : List ℕ → Option OpKind
-kind_named word = find (λ kind. bytes_eq (spelling kind) word) (Push ∷ Read ∷ Write ∷ Print ∷ Halt ∷ [])
+kind_named word = find (λ kind. bytes_eq (spelling kind) word) all_kinds
 
 -- the keyword of an instruction, where there is one of the name
 abbrev pub keyword_of_kind : Option OpKind → Keyword
@@ -92,13 +96,14 @@ abbrev pub write_form : Option (List ℕ) → Form
 write_form (Some name) = WriteLine name
 write_form None = Malformed
 
--- an instruction, by the words behind its name
+-- an instruction, by the words behind its name; the text has no other instruction yet
 abbrev pub op_form : OpKind → Following → Form
-op_form Push words = push_form (number_in words)
-op_form Read words = read_form (name_in words)
-op_form Write words = write_form (name_in words)
-op_form Print words = alone PrintLine words
-op_form Halt words = alone HaltLine words
+op_form kinds.Push words = push_form (number_in words)
+op_form kinds.Read words = read_form (name_in words)
+op_form kinds.Write words = write_form (name_in words)
+op_form kinds.Print words = alone PrintLine words
+op_form kinds.Halt words = alone HaltLine words
+op_form kind words = Malformed
 
 -- a line, by the words behind its first
 abbrev pub form_by : Keyword → Following → Form

@@ -82,6 +82,8 @@ fn op_line(kind: OpKind, operands: Operands<'_>) -> Line<'_>
         OpKind::Write => write_line(operands),
         OpKind::Print => alone(Line::Print, operands),
         OpKind::Halt => alone(Line::Halt, operands),
+        // The text has no other instruction yet.
+        _ => Line::Malformed,
     }
 }
 
