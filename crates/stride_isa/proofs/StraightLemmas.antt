@@ -31,6 +31,7 @@ data IsPlain : Op → Type 0 where
   IsPrint : IsPlain ops.Print
   IsHalt : IsPlain ops.Halt
 
+-- straight code begins with one of them
 plain : (decls : List Decl) (depth : ℕ) (op : Op) (rest : List Op) → is_straight_from decls depth (op ∷ rest) ≡ true → IsPlain op
 plain decls depth (ops.Push word) rest h = IsPush word
 plain decls depth ops.Dup rest h = absurd (cc)

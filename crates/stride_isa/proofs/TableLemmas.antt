@@ -5,6 +5,7 @@ use Rattle.stride_isa.specs.declared.op.OpKind.{OpKind}
 use Rattle.stride_isa.specs.declared.op.OpKind.TheVariants as kinds
 use Rattle.stride_isa.specs.Instructions.{spelling}
 
+-- all kinds, each at its row
 abbrev pub table : List OpKind
 table = kinds.Push ∷ kinds.Dup ∷ kinds.Drop ∷ kinds.Swap ∷ kinds.Over ∷ kinds.Add ∷ kinds.Sub ∷ kinds.Mul ∷ kinds.Div ∷ kinds.Rem ∷ kinds.And ∷ kinds.Or ∷ kinds.Xor ∷ kinds.Shl ∷ kinds.Shr ∷ kinds.Eq ∷ kinds.Lt ∷ kinds.Not ∷ kinds.Get ∷ kinds.Set ∷ kinds.Jump ∷ kinds.Jz ∷ kinds.Jnz ∷ kinds.Read ∷ kinds.Write ∷ kinds.ReadAt ∷ kinds.WriteAt ∷ kinds.Enter ∷ kinds.Exit ∷ kinds.Print ∷ kinds.Halt ∷ []
 
@@ -42,6 +43,7 @@ unnamed_each word h kinds.Exit = h 28 kinds.Exit (omega arith)
 unnamed_each word h kinds.Print = h 29 kinds.Print (omega arith)
 unnamed_each word h kinds.Halt = h 30 kinds.Halt (omega arith)
 
+-- the same of an answer of none
 pub unnamed : (result : Option OpKind) (word : List ℕ) → IfNone result ((i : ℕ) (d : OpKind) → i < length table → spelling (slice_index_or table i d) ≢ word) → IfNone result ((kind : OpKind) → spelling kind ≢ word)
 unnamed (Some found) word h = tt
 unnamed None word h = unnamed_each word h

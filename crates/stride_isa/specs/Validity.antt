@@ -27,6 +27,7 @@ Leads (Jnz target) at next = (next ≡ target) ⊎ (next ≡ at + 1)
 Leads Halt at next = ⊥
 Leads op at next = next ≡ at + 1
 
+-- it is the shape of an array
 abbrev pub IsArray : Shape → Type 0
 IsArray Single = ⊥
 IsArray (Array size) = Unit {0}
