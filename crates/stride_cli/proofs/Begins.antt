@@ -1,10 +1,10 @@
 -- One more player starts.
-use Rattle.std.proofs.Common.{◌≡◌, ℕ, zero, suc, ◌+◌, ◌<◌, ◌∙◌, ◌⊎◌, inl, inr, List, [], ◌∷◌, ◌++◌, length, map, refl, sym, ap, subst, arith, add-one, get_or, append_assoc, length-append}
+use Rattle.std.proofs.Common.{◌≡◌, ℕ, zero, suc, ◌+◌, ◌<◌, ◌∙◌, ◌⊎◌, inl, inr, List, [], ◌∷◌, ◌++◌, length, map, refl, sym, ap, subst, arith, add-one, get_or, Option, None, append_assoc, length-append}
 use Rattle.std.specs.List.{flat_map, range_with_len}
 use Rattle.std.proofs.lemmas.Bool.{cases_lt}
 use Rattle.std.proofs.lemmas.Grind.{flat_map-append}
 use Rattle.std.proofs.lemmas.List.{append-nil, map-append}
-use Rattle.std.proofs.Math.ListN.{get_or-append}
+use Rattle.std.proofs.Math.ListN.{get_or-append, replicate}
 use Rattle.std.proofs.Math.Seq.{get_or-append_seam}
 use Rattle.stride_isa.specs.Listing.{Listing}
 use Rattle.sc_machine.specs.ThreadStep.{start_thread, settled}
@@ -52,3 +52,9 @@ lines_more p fuel n before lines lines' so_far more =
     ∙ ap (λ ls. ls ++ transcript_bytes (settled_lines p fuel n start_thread)) so_far
     ∙ append_assoc before (transcript_bytes some) (transcript_bytes (settled_lines p fuel n start_thread))
     ∙ ap (λ ls. before ++ ls) (sym (flat_map-append spelled some (settled_lines p fuel n start_thread)) ∙ ap transcript_bytes (sym last))
+
+-- no monitor is held in a row of nobodies
+pub none_held : (n k : ℕ) → get_or {A = Option ℕ} (replicate n None) k None ≡ None
+none_held zero k = refl
+none_held (suc n) zero = refl
+none_held (suc n) (suc k) = none_held n k

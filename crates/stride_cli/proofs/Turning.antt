@@ -1,5 +1,5 @@
 -- A turn at the table is a turn of the machine that it shows.
-use Rattle.std.proofs.Common.{◌≡◌, ◌≢◌, ℕ, ◌+◌, ◌-◌, ◌<◌, ◌≤◌, ◌∙◌, ◌++◌, ◌⊎◌, inl, inr, Bool, true, false, if◌then◌else◌, List, length, map, refl, sym, ap, subst, arith, get_or, set, Vec, slice_index, Option, Some}
+use Rattle.std.proofs.Common.{◌≡◌, ◌≢◌, ℕ, ◌+◌, ◌-◌, ◌<◌, ◌≤◌, ◌∙◌, ◌++◌, ◌⊎◌, inl, inr, Bool, true, false, if◌then◌else◌, List, length, map, refl, sym, ap, subst, arith, get_or, set, Vec, slice_index, Option, Some, None}
 use Rattle.std.specs.Vec.{with_item}
 use Rattle.std.specs.List.{slice_get, slice_index_or, slice_set}
 use Rattle.std.proofs.lemmas.Option.{get_or_from_slice_get, slice_get_within}
@@ -8,17 +8,17 @@ use Rattle.std.proofs.lemmas.List.{get_or-map, get_or-set_same, get_or-set_other
 use Rattle.stride_base.specs.Listed.{Listed}
 use Rattle.stride_isa.specs.Listing.{Listing, cell_count}
 use Rattle.sc_machine.specs.declared.stop.Stop.{Stop}
-use Rattle.sc_machine.specs.declared.stop.Stop.TheVariants.{Read, Write, Ended}
+use Rattle.sc_machine.specs.declared.stop.Stop.TheVariants.{Read, Write, Enter, Exit, Ended}
 use Rattle.sc_machine.specs.ThreadStep.{Thread, Stands, start_thread, now, settled, answered}
-use Rattle.sc_machine.specs.ThreadRun.{NamesCell, IsShared}
-use Rattle.sc_machine.specs.Machine.{Machine, thread_at, may_pass, can, put, word_read, cells_after, holders_after}
+use Rattle.sc_machine.specs.ThreadRun.{NamesCell}
+use Rattle.sc_machine.specs.Machine.{Machine, thread_at, may_pass, can, is_free_for, put, word_read, cells_after, holders_after}
 use Rattle.sc_machine.specs.Schedule.{settled_lines, turn, turned}
 use Rattle.sc_machine.specs.Transcript.{spelled, transcript_bytes}
 use Rattle.std.proofs.lemmas.Grind.{flat_map-append}
 use Rattle.sc_machine.proofs.AtStop.{turn-standing, can-standing}
 use Rattle.stride_cli.specs.declared.player.Player.{Player}
 use Rattle.stride_cli.specs.declared.table.Table.{Table}
-use Rattle.stride_cli.specs.Playing.{IsPlayer, IsTable, Shows, WentOn, cells_in, thread_of, word_in}
+use Rattle.stride_cli.specs.Playing.{IsPlayer, IsTable, Shows, WentOn, cells_in, holders_in, may_in, thread_of, word_in}
 
 -- the thread of the machine that a player plays
 shown_thread : (table : Table) (m : Machine) (t : ℕ) (d : Player) → Shows table m → t < length table.players.items → d ≡ get_or table.players.items t d → thread_at m t ≡ thread_of d
@@ -30,40 +30,69 @@ shown_thread table m t d shows lt e =
 word_shown : (table : Table) (m : Machine) (stop : Stop) → Shows table m → NamesCell table.program.now stop → word_in stop table.cells ≡ word_read stop m.cells
 word_shown table m (Read cell) shows named = shows.cells cell named.0
 word_shown table m (Write cell value) shows named = refl
+word_shown table m (Enter monitor) shows named = refl
+word_shown table m (Exit monitor) shows named = refl
 word_shown table m (Ended end) shows named = refl
 
 cells_long : (stop : Stop) (cells : List ℕ) → length (cells_in stop cells) ≡ length cells
 cells_long (Read cell) cells = refl
 cells_long (Write cell value) cells = length-set cells cell value
+cells_long (Enter monitor) cells = refl
+cells_long (Exit monitor) cells = refl
 cells_long (Ended end) cells = refl
 
-put_shown : (cells : List ℕ) (map : ℕ → ℕ) (at value count : ℕ) → at < count → count ≤ length cells → ((cell : ℕ) → cell < count → slice_index cells cell ≡ map cell) → (cell : ℕ) → cell < count → slice_index (set cells at value) cell ≡ put map at value cell
-put_shown cells map at value count inside room shown cell lt = elim (eqb_tells cell at) [
+put_shown : {X : Type 0} (row : List X) (map : ℕ → X) (d : X) (at : ℕ) (value : X) (count : ℕ) → count ≤ length row → ((k : ℕ) → k < count → slice_index_or row k d ≡ map k) → at < count → (k : ℕ) → k < count → slice_index_or (set row at value) k d ≡ put map at value k
+put_shown row map d at value count room shown inside k lt = elim (eqb_tells k at) [
   | inl same ↦
-      let e : cell ≡ at = same.1 in
-      ap (slice_index (set cells at value)) e ∙ get_or-set_same cells at value 0 (omega arith) ∙ ap (λ b. if b then value else map cell) (sym same.0)
+    let e : k ≡ at = same.1 in
+    ap (λ n. slice_index_or (set row at value) n d) e ∙ get_or-set_same row at value d (omega arith) ∙ ap (λ b. if b then value else map k) (sym same.0)
   | inr other ↦
-      let differ : cell ≢ at = other.1 in
-      get_or-set_other cells at cell value 0 differ ∙ shown cell lt ∙ ap (λ b. if b then value else map cell) (sym other.0)
+    let differ : k ≢ at = other.1 in
+    get_or-set_other row at k value d differ ∙ shown k lt ∙ ap (λ b. if b then value else map k) (sym other.0)
 ]
 
 cells_shown : (table : Table) (m : Machine) (stop : Stop) → IsTable table → Shows table m → NamesCell table.program.now stop → (cell : ℕ) → cell < cell_count table.program.now.decls → slice_index (cells_in stop table.cells) cell ≡ cells_after stop m.cells cell
 cells_shown table m (Read at) is shows named cell lt = shows.cells cell lt
 cells_shown table m (Write at value) is shows named cell lt =
-    put_shown table.cells m.cells at value (cell_count table.program.now.decls) named.0 is.room shows.cells cell lt
+    put_shown table.cells m.cells 0 at value (cell_count table.program.now.decls) is.room shows.cells named.0 cell lt
+cells_shown table m (Enter monitor) is shows named cell lt = shows.cells cell lt
+cells_shown table m (Exit monitor) is shows named cell lt = shows.cells cell lt
 cells_shown table m (Ended end) is shows named cell lt = shows.cells cell lt
 
+holders_long : (t : ℕ) (stop : Stop) (holders : List (Option ℕ)) → length (holders_in t stop holders) ≡ length holders
+holders_long t (Read cell) holders = refl
+holders_long t (Write cell value) holders = refl
+holders_long t (Enter monitor) holders = length-set holders monitor (Some t)
+holders_long t (Exit monitor) holders = length-set holders monitor None
+holders_long t (Ended end) holders = refl
+
+holders_shown : (table : Table) (m : Machine) (t : ℕ) (stop : Stop) → IsTable table → Shows table m → NamesCell table.program.now stop → (monitor : ℕ) → monitor < 64 → slice_index_or (holders_in t stop table.holders) monitor None ≡ holders_after t stop m.holders monitor
+holders_shown table m t (Read cell) is shows named monitor lt = shows.holders monitor lt
+holders_shown table m t (Write cell value) is shows named monitor lt = shows.holders monitor lt
+holders_shown table m t (Enter at) is shows named monitor lt =
+    put_shown table.holders m.holders None at (Some t) 64 (omega (arith, is.monitors)) shows.holders named monitor lt
+holders_shown table m t (Exit at) is shows named monitor lt =
+    put_shown table.holders m.holders None at None 64 (omega (arith, is.monitors)) shows.holders named monitor lt
+holders_shown table m t (Ended end) is shows named monitor lt = shows.holders monitor lt
+
+may_shown : (table : Table) (m : Machine) (t : ℕ) (stop : Stop) → Shows table m → NamesCell table.program.now stop → may_in t stop table.holders ≡ may_pass t stop m.holders
+may_shown table m t (Read cell) shows named = refl
+may_shown table m t (Write cell value) shows named = refl
+may_shown table m t (Enter monitor) shows named = ap (is_free_for t) (shows.holders monitor named)
+may_shown table m t (Exit monitor) shows named = refl
+may_shown table m t (Ended end) shows named = refl
+
 -- the table after a player went on
-abbrev pub table_after : Table → ℕ → Player → List ℕ → Listed ℕ → Table
-table_after table t player cells transcript =
-    record { program = table.program; fuel = table.fuel; players = with_item table.players t player; cells = cells; transcript = transcript }
+abbrev pub table_after : Table → ℕ → Player → Stop → Listed ℕ → Table
+table_after table t player stop transcript =
+    record { program = table.program; fuel = table.fuel; players = with_item table.players t player; cells = cells_in stop table.cells; holders = holders_in t stop table.holders; transcript = transcript }
 
 module _ (table : Table) (t : ℕ) (old new : Player) (transcript : Listed ℕ) where
   abbrev p : Listing
   p = table.program.now
 
   abbrev after : Table
-  after = table_after table t new (cells_in old.stop table.cells) transcript
+  after = table_after table t new old.stop transcript
 
   abbrev Went : Type 0
   Went = WentOn p table.fuel t (word_in old.stop table.cells) old new table.transcript.items transcript.items
@@ -72,6 +101,7 @@ module _ (table : Table) (t : ℕ) (old new : Player) (transcript : Listed ℕ) 
   still_table is lt went = record {
     count = length-set table.players.items t new ∙ is.count;
     room = omega (arith, is.room, cells_long old.stop table.cells);
+    monitors = holders_long t old.stop table.holders ∙ is.monitors;
     each = λ k d below. elim (eqb_tells k t) [
       | inl same ↦
           let e : k ≡ t = same.1 in
@@ -84,9 +114,9 @@ module _ (table : Table) (t : ℕ) (old new : Player) (transcript : Listed ℕ) 
     ];
   }
 
-  pub turn_taken : (m : Machine) → IsTable table → t < length table.players.items → old ≡ get_or table.players.items t old → IsShared old.stop → Went → Shows table m → (can p t m ≡ true) × Shows after (turn p table.fuel t m)
+  pub turn_taken : (m : Machine) → IsTable table → t < length table.players.items → old ≡ get_or table.players.items t old → may_in t old.stop table.holders ≡ true → Went → Shows table m → (can p t m ≡ true) × Shows after (turn p table.fuel t m)
   unfolding turned
-  turn_taken m is lt whose shared went shows =
+  turn_taken m is lt whose may went shows =
       let player : IsPlayer p table.fuel t old = subst (λ (player : Player). IsPlayer p table.fuel t player) (sym whose) (is.each t old lt) in
       let thread = shown_thread table m t old shows lt whose in
       let there : t < length m.threads = omega (arith, ap length shows.threads, length-map table.players.items thread_of) in
@@ -106,6 +136,7 @@ module _ (table : Table) (t : ℕ) (old new : Player) (transcript : Listed ℕ) 
               ∙ ap (λ s. set (map thread_of table.players.items) t s) (sym went.settles)
               ∙ sym (map-set thread_of table.players.items t new);
           cells = λ cell below. cells_shown table m old.stop is shows player.cell cell below ∙ ap (λ f. f cell) (sym cells);
+          holders = λ monitor below. holders_shown table m t old.stop is shows player.cell monitor below ∙ ap (λ (k : Machine). k.holders monitor) (sym by_stop);
           transcript = went.printed
               ∙ ap (λ xs. xs ++ transcript_bytes (settled_lines p table.fuel t (answered p table.fuel t (word_in old.stop table.cells) (thread_of old)))) shows.transcript
               ∙ ap (λ s. transcript_bytes m.transcript ++ transcript_bytes (settled_lines p table.fuel t s)) answer
@@ -113,18 +144,13 @@ module _ (table : Table) (t : ℕ) (old new : Player) (transcript : Listed ℕ) 
               ∙ ap transcript_bytes (sym lines);
         },
       )
-    where
-      passes : (stop : Stop) → IsShared stop → may_pass stop m.holders ≡ true
-      passes (Read cell) shared = refl
-      passes (Write cell value) shared = refl
-      passes (Ended end) shared = absurd shared
 
 module _ (table : Table) (t : ℕ) (old new : Player) (transcript : Listed ℕ) (stop : Stop) (word : ℕ) where
   abbrev Answered : Type 0
   Answered = WentOn old.run.program old.run.fuel old.run.thread word old new table.transcript.items transcript.items
 
   abbrev table' : Table
-  table' = table_after table t new (cells_in stop table.cells) transcript
+  table' = table_after table t new stop transcript
 
   player_at : IsTable table → slice_get table.players.items t ≡ Some old → IsPlayer table.program.now table.fuel t old
   player_at is found =
@@ -139,10 +165,23 @@ module _ (table : Table) (t : ℕ) (old new : Player) (transcript : Listed ℕ) 
 
   pub table_kept : IsTable table → slice_get table.players.items t ≡ Some old → old.stop ≡ stop → word ≡ word_in stop table.cells → Answered → IsTable table'
   table_kept is found e w went =
-      subst (λ (s : Stop). IsTable (table_after table t new (cells_in s table.cells) transcript)) e
+      subst (λ (s : Stop). IsTable (table_after table t new s transcript)) e
       (still_table table t old new transcript is (slice_get_within table.players.items t old found) (went_at (player_at is found) e w went))
 
-  pub turn_shown : IsTable table → slice_get table.players.items t ≡ Some old → old.stop ≡ stop → IsShared stop → word ≡ word_in stop table.cells → Answered → (m : Machine) → Shows table m → (can table.program.now t m ≡ true) × Shows table' (turn table.program.now table.fuel t m)
-  turn_shown is found e shared w went m shows =
-      let taken = turn_taken table t old new transcript m is (slice_get_within table.players.items t old found) (sym (get_or_from_slice_get table.players.items t old old found)) (subst IsShared (sym e) shared) (went_at (player_at is found) e w went) shows in
-      (taken.0, subst (λ (s : Stop). Shows (table_after table t new (cells_in s table.cells) transcript) (turn table.program.now table.fuel t m)) e taken.1)
+  pub turn_shown : IsTable table → slice_get table.players.items t ≡ Some old → old.stop ≡ stop → may_in t stop table.holders ≡ true → word ≡ word_in stop table.cells → Answered → (m : Machine) → Shows table m → (can table.program.now t m ≡ true) × Shows table' (turn table.program.now table.fuel t m)
+  turn_shown is found e may w went m shows =
+      let taken = turn_taken table t old new transcript m is (slice_get_within table.players.items t old found) (sym (get_or_from_slice_get table.players.items t old old found)) (ap (λ s. may_in t s table.holders) e ∙ may) (went_at (player_at is found) e w went) shows in
+      (taken.0, subst (λ (s : Stop). Shows (table_after table t new s transcript) (turn table.program.now table.fuel t m)) e taken.1)
+
+-- a thread that may not go on takes no turn
+pub turn_refused : (table : Table) (t : ℕ) (old : Player) (stop : Stop) → IsTable table → slice_get table.players.items t ≡ Some old → old.stop ≡ stop → may_in t stop table.holders ≡ false → (m : Machine) → Shows table m → can table.program.now t m ≡ false
+turn_refused table t old stop is found e no_way m shows =
+    let lt = slice_get_within table.players.items t old found in
+    let whose = sym (get_or_from_slice_get table.players.items t old old found) in
+    let player : IsPlayer table.program.now table.fuel t old = subst (λ (player : Player). IsPlayer table.program.now table.fuel t player) (sym whose) (is.each t old lt) in
+    let thread = shown_thread table m t old shows lt whose in
+    let there : t < length m.threads = omega (arith, ap length shows.threads, length-map table.players.items thread_of) in
+    let stands : now table.program.now t (thread_at m t) ≡ Stands old.stop = ap (λ s. now table.program.now t s) thread ∙ player.stands in
+    can-standing table.program.now t old.stop m there stands
+    ∙ sym (may_shown table m t old.stop shows player.cell)
+    ∙ ap (λ s. may_in t s table.holders) e ∙ no_way

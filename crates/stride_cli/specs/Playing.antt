@@ -4,10 +4,10 @@ use Rattle.std.specs.List.{range_with_len, slice_index_or}
 use Rattle.stride_base.specs.Listed.{Listed}
 use Rattle.stride_isa.specs.Listing.{Listing, cell_count}
 use Rattle.sc_machine.specs.declared.stop.Stop.{Stop}
-use Rattle.sc_machine.specs.declared.stop.Stop.TheVariants.{Read, Write, Ended}
+use Rattle.sc_machine.specs.declared.stop.Stop.TheVariants.{Read, Write, Enter, Exit, Ended}
 use Rattle.sc_machine.specs.ThreadStep.{Thread, Stands, start_thread, now, settled, answered}
 use Rattle.sc_machine.specs.ThreadRun.{SameThread, NamesCell, state}
-use Rattle.sc_machine.specs.Machine.{Machine, can}
+use Rattle.sc_machine.specs.Machine.{Machine, can, is_free_for}
 use Rattle.sc_machine.specs.Schedule.{settled_lines, turn, turns, ready, run_of, refused_place}
 use Rattle.sc_machine.specs.Transcript.{tag, transcript_bytes}
 use Rattle.stride_cli.specs.declared.player.Player.{Player}
@@ -38,13 +38,33 @@ labelled label begins (byte ∷ bytes) = (if begins then label else []) ++ (byte
 abbrev pub word_in : Stop → List ℕ → ℕ
 word_in (Read cell) cells = slice_index cells cell
 word_in (Write cell value) cells = 0
+word_in (Enter monitor) cells = 0
+word_in (Exit monitor) cells = 0
 word_in (Ended end) cells = 0
 
 -- the row of cells after the instruction at a stop
 abbrev pub cells_in : Stop → List ℕ → List ℕ
 cells_in (Read cell) cells = cells
 cells_in (Write cell value) cells = slice_set cells cell value
+cells_in (Enter monitor) cells = cells
+cells_in (Exit monitor) cells = cells
 cells_in (Ended end) cells = cells
+
+-- whether a thread may go on at a stop, by the row of holders
+abbrev pub may_in : ℕ → Stop → List (Option ℕ) → Bool
+may_in t (Read cell) holders = true
+may_in t (Write cell value) holders = true
+may_in t (Enter monitor) holders = is_free_for t (slice_index_or holders monitor None)
+may_in t (Exit monitor) holders = true
+may_in t (Ended end) holders = false
+
+-- the row of holders after the instruction at a stop, made by this thread
+abbrev pub holders_in : ℕ → Stop → List (Option ℕ) → List (Option ℕ)
+holders_in t (Read cell) holders = holders
+holders_in t (Write cell value) holders = holders
+holders_in t (Enter monitor) holders = slice_set holders monitor (Some t)
+holders_in t (Exit monitor) holders = slice_set holders monitor None
+holders_in t (Ended end) holders = holders
 
 -- the player was given a word at its shared instruction and went on to where it stands then, and what it printed on
 -- the way was added to the transcript
@@ -63,12 +83,14 @@ pub record ArePlayers (p : Listing) (fuel count : ℕ) (players : List Player) :
 pub record IsTable (table : Table) : Type 0 where
   pub count : length table.players.items ≡ length table.program.now.threads
   pub room : cell_count table.program.now.decls ≤ length table.cells
+  pub monitors : length table.holders ≡ 64
   pub each : (t : ℕ) (d : Player) → t < length table.players.items → IsPlayer table.program.now table.fuel t (slice_index_or table.players.items t d)
 
 -- the table shows this machine
 pub record Shows (table : Table) (m : Machine) : Type 0 where
   pub threads : m.threads ≡ map thread_of table.players.items
   pub cells : (cell : ℕ) → cell < cell_count table.program.now.decls → slice_index table.cells cell ≡ m.cells cell
+  pub holders : (monitor : ℕ) → monitor < 64 → slice_index_or table.holders monitor None ≡ m.holders monitor
   pub transcript : table.transcript.items ≡ transcript_bytes m.transcript
 
 -- the table is one of the same program with the same fuel

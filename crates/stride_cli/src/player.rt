@@ -81,7 +81,10 @@ impl<'p> Player<'p> {
     {
         match self.stop {
             Stop::Ended { end } => end,
-            Stop::Read { cell: _ } | Stop::Write { cell: _, value: _ } => self.run.give_up(),
+            Stop::Read { cell: _ }
+            | Stop::Write { cell: _, value: _ }
+            | Stop::Enter { mon: _ }
+            | Stop::Exit { mon: _ } => self.run.give_up(),
         }
     }
 }

@@ -1,5 +1,6 @@
 //! The machine that plays a schedule: all threads over one row of cells.
 ghost use Rattle.std.specs.Prelude.{◌≡◌, ◌<◌, ◌≤◌, IfOk, length};
+ghost use Rattle.sc_machine.specs.Machine.{is_free_for as free_for};
 
 use crate::player::Player;
 use crate::starting::{start_players, starting_cells};
@@ -8,17 +9,31 @@ use std::alloc::Global;
 use stride_base::{List, NoMemory};
 use stride_isa::Checked;
 
+/// The most monitors of a program.
+pub const MONITOR_LIMIT: usize = 64;
 /// The most cells of a program.
 pub const CELL_LIMIT: usize = 256;
 
-/// The players of a program's threads, the value of each cell, and the transcript so far.
+/// The players of a program's threads, the value of each cell, the thread that holds each monitor, and the transcript so
+/// far.
 #[derive(Drop)]
 pub struct Table<'p> {
     pub program: &'p Checked,
     pub fuel: u32,
     pub players: Vec<Player<'p>>,
     pub cells: [u64; CELL_LIMIT],
+    pub holders: [Option<u8>; MONITOR_LIMIT],
     pub transcript: List<u8>,
+}
+
+/// Whether no other thread than this one is the holder.
+fn is_free_for(thread: u8, holder: Option<u8>) -> bool
+    ensures { result ≡ free_for thread holder }
+{
+    match holder {
+        None => true,
+        Some(other) => other == thread,
+    }
 }
 
 impl<'p> Table<'p> {
@@ -49,6 +64,17 @@ impl<'p> Table<'p> {
                 self.cells[cell as usize] = value;
                 player.answer(None, &mut self.transcript)?;
             }
+            Stop::Enter { mon } => {
+                if !is_free_for(thread, self.holders[mon as usize]) {
+                    return Ok(false);
+                }
+                self.holders[mon as usize] = Some(thread);
+                player.answer(None, &mut self.transcript)?;
+            }
+            Stop::Exit { mon } => {
+                self.holders[mon as usize] = None;
+                player.answer(None, &mut self.transcript)?;
+            }
             Stop::Ended { end: _ } => return Ok(false),
         }
         Ok(true)
@@ -77,6 +103,7 @@ impl<'p> Table<'p> {
             fuel,
             players,
             cells: starting_cells(program),
+            holders: [None; MONITOR_LIMIT],
             transcript,
         })
     }
