@@ -9,10 +9,10 @@ use Rattle.sc_machine.specs.Machine.{Machine, thread_at, may_make, may_pass, can
 use Rattle.sc_machine.specs.Schedule.{settled_lines, settle, turn, turned}
 
 -- a thread that stands is enabled where it may pass the stop
-pub can-standing : (p : Listing) (t : ℕ) (stop : Stop) (m : Machine) → t < length m.threads → now p t (thread_at m t) ≡ Stands stop → can p t m ≡ may_pass stop m.holders
+pub can-standing : (p : Listing) (t : ℕ) (stop : Stop) (m : Machine) → t < length m.threads → now p t (thread_at m t) ≡ Stands stop → can p t m ≡ may_pass t stop m.holders
 can-standing p t stop m there stands =
-    ap (λ b. b && may_make (now p t (thread_at m t)) m.holders) (lt-ltb t (length m.threads) there)
-    ∙ ap (λ r. may_make r m.holders) stands
+    ap (λ b. b && may_make t (now p t (thread_at m t)) m.holders) (lt-ltb t (length m.threads) there)
+    ∙ ap (λ r. may_make t r m.holders) stands
 
 -- the turn of a thread that stands, as one equation by its stop
 pub turn-standing : (p : Listing) (fuel t : ℕ) (stop : Stop) (m : Machine) → t < length m.threads → now p t (thread_at m t) ≡ Stands stop → turn p fuel t m ≡ turned p fuel t stop m

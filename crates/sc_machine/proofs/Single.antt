@@ -50,7 +50,7 @@ abbrev RunsNext : Listing → ℕ → ℕ → ℕ → Row → Thread → Machine
 RunsNext p fuel t n r s m = sc_run p fuel (replicate ((local_steps p fuel t n (moved fuel r s)).made - s.made) t) m ≡ Some (with_thread t (local_steps p fuel t n (moved fuel r s)) (printed_line t (printed_by r) ++ printed_in p fuel t n (moved fuel r s)) m)
 
 -- where the next instruction is local, it is the first step
-first_local : (p : Listing) (fuel t n : ℕ) (r : Row) (s : Thread) (m : Machine) → RunsLocals p fuel t n → now p t s ≡ r → t < length m.threads → thread_at m t ≡ s → (moved fuel r s).made ≡ s.made + 1 → stepped_by p fuel t r m ≡ moved_by fuel t r m → may_make r m.holders ≡ true → RunsNext p fuel t n r s m
+first_local : (p : Listing) (fuel t n : ℕ) (r : Row) (s : Thread) (m : Machine) → RunsLocals p fuel t n → now p t s ≡ r → t < length m.threads → thread_at m t ≡ s → (moved fuel r s).made ≡ s.made + 1 → stepped_by p fuel t r m ≡ moved_by fuel t r m → may_make t r m.holders ≡ true → RunsNext p fuel t n r s m
 unfolding sc_run sc_step
 first_local p fuel t n r s m rest e there is counted stepped may =
     let s' = moved fuel r s in
@@ -59,8 +59,8 @@ first_local p fuel t n r s m rest e there is counted stepped may =
     let k = (local_steps p fuel t n s').made - s'.made in
     let count : (local_steps p fuel t n s').made - s.made ≡ suc k = omega (arith, local_steps-made-le p fuel t n s') in
     let enabled : can p t m ≡ true =
-    ap (λ b. b && may_make (now p t (thread_at m t)) m.holders) (lt-ltb t (length m.threads) there)
-    ∙ ap (λ x. may_make (now p t x) m.holders) is ∙ ap (λ x. may_make x m.holders) e ∙ may in
+    ap (λ b. b && may_make t (now p t (thread_at m t)) m.holders) (lt-ltb t (length m.threads) there)
+    ∙ ap (λ x. may_make t (now p t x) m.holders) is ∙ ap (λ x. may_make t x m.holders) e ∙ may in
     let step : sc_step p fuel t m ≡ m' =
     ap (λ x. stepped_by p fuel t (now p t x) m) is ∙ ap (λ x. stepped_by p fuel t x m) e ∙ stepped
     ∙ ap (λ x. with_thread t (moved fuel r x) lines m) is in
@@ -108,7 +108,7 @@ length-turn p fuel t m = length-settle p fuel t (sc_step p fuel t m) ∙ length-
 
 -- an enabled thread is there
 pub there_from_can : (p : Listing) (t : ℕ) (m : Machine) → can p t m ≡ true → t < length m.threads
-there_from_can p t m e = ltb-true t (length m.threads) (first_of_both (nat_lt t (length m.threads)) (may_make (now p t (thread_at m t)) m.holders) e)
+there_from_can p t m e = ltb-true t (length m.threads) (first_of_both (nat_lt t (length m.threads)) (may_make t (now p t (thread_at m t)) m.holders) e)
   where
     first_of_both : (a b : Bool) → (a && b) ≡ true → a ≡ true
     first_of_both true b e = refl

@@ -35,7 +35,7 @@ StartsSettle = (p : Listing) (fuel : ℕ) → ready p fuel ≡ record {
 
 -- a thread that stands is enabled where it may pass its stop, and its turn is one equation by that stop
 abbrev pub TurnByStop : Type 0
-TurnByStop = (p : Listing) (fuel t : ℕ) (stop : Stop) (m : Machine) → t < length m.threads → now p t (thread_at m t) ≡ Stands stop → (can p t m ≡ may_pass stop m.holders) × (turn p fuel t m ≡ turned p fuel t stop m)
+TurnByStop = (p : Listing) (fuel t : ℕ) (stop : Stop) (m : Machine) → t < length m.threads → now p t (thread_at m t) ≡ Stands stop → (can p t m ≡ may_pass t stop m.holders) × (turn p fuel t m ≡ turned p fuel t stop m)
 
 -- a thread with fuel left where it has not ended settles at a shared instruction or at its end
 abbrev pub SettledStands : Type 0

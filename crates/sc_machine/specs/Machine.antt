@@ -3,7 +3,7 @@
 use Rattle.std.specs.Prelude.{ℕ, ◌==◌, ◌&&◌, Bool, true, false, if◌then◌else◌, List, [], ◌∷◌, ◌++◌, length, map, Option, Some, None, nat_lt, slice_index_or, slice_set}
 use Rattle.stride_isa.specs.Listing.{Listing, start_of}
 use Rattle.sc_machine.specs.declared.stop.Stop.{Stop}
-use Rattle.sc_machine.specs.declared.stop.Stop.TheVariants.{Read, Write, Ended}
+use Rattle.sc_machine.specs.declared.stop.Stop.TheVariants.{Read, Write, Enter, Exit, Ended}
 use Rattle.sc_machine.specs.ThreadStep.{Thread, start_thread, Row, Goes, Ends, Stands, printed_by, now, moved, answered}
 
 -- a printed line, with the number of the thread that printed it: the digits of a word and a line feed
@@ -31,38 +31,52 @@ thread_at m t = slice_index_or m.threads t start_thread
 abbrev pub put : {X : Type 0} → (ℕ → X) → ℕ → X → ℕ → X
 put f place value other = if other == place then value else f other
 
--- whether a thread may go on at a stop, by the holders of the monitors
-abbrev pub may_pass : Stop → (ℕ → Option ℕ) → Bool
-may_pass (Read cell) holders = true
-may_pass (Write cell value) holders = true
-may_pass (Ended end) holders = false
+-- whether no other thread than this one is the holder
+abbrev pub is_free_for : ℕ → Option ℕ → Bool
+is_free_for t None = true
+is_free_for t (Some holder) = holder == t
+
+-- whether a thread may go on at a stop, by the holders of the monitors: it waits while another thread holds the
+-- monitor that it enters
+abbrev pub may_pass : ℕ → Stop → (ℕ → Option ℕ) → Bool
+may_pass t (Read cell) holders = true
+may_pass t (Write cell value) holders = true
+may_pass t (Enter monitor) holders = is_free_for t (holders monitor)
+may_pass t (Exit monitor) holders = true
+may_pass t (Ended end) holders = false
 
 -- whether a thread may make what comes next
-abbrev pub may_make : Row → (ℕ → Option ℕ) → Bool
-may_make (Goes pc stack locals printed) holders = true
-may_make (Ends end) holders = true
-may_make (Stands stop) holders = may_pass stop holders
+abbrev pub may_make : ℕ → Row → (ℕ → Option ℕ) → Bool
+may_make t (Goes pc stack locals printed) holders = true
+may_make t (Ends end) holders = true
+may_make t (Stands stop) holders = may_pass t stop holders
 
 -- whether a thread is enabled: it is there, has not ended, and may make its next instruction
 abbrev pub can : Listing → ℕ → Machine → Bool
-can p t m = nat_lt t (length m.threads) && may_make (now p t (thread_at m t)) m.holders
+can p t m = nat_lt t (length m.threads) && may_make t (now p t (thread_at m t)) m.holders
 
 -- the word that a thread is given at a stop, 0 where it reads none
 abbrev pub word_read : Stop → (ℕ → ℕ) → ℕ
 word_read (Read cell) cells = cells cell
 word_read (Write cell value) cells = 0
+word_read (Enter monitor) cells = 0
+word_read (Exit monitor) cells = 0
 word_read (Ended end) cells = 0
 
 -- the cells after the instruction at a stop
 abbrev pub cells_after : Stop → (ℕ → ℕ) → ℕ → ℕ
 cells_after (Read cell) cells = cells
 cells_after (Write cell value) cells = put cells cell value
+cells_after (Enter monitor) cells = cells
+cells_after (Exit monitor) cells = cells
 cells_after (Ended end) cells = cells
 
 -- the holders of the monitors after the instruction at a stop, made by this thread
 abbrev pub holders_after : ℕ → Stop → (ℕ → Option ℕ) → ℕ → Option ℕ
 holders_after t (Read cell) holders = holders
 holders_after t (Write cell value) holders = holders
+holders_after t (Enter monitor) holders = put holders monitor (Some t)
+holders_after t (Exit monitor) holders = put holders monitor None
 holders_after t (Ended end) holders = holders
 
 -- the machine after the thread makes the shared instruction at which it stands

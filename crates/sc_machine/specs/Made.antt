@@ -34,7 +34,7 @@ pub record Made (row : Row) (next : Next) (stack stack' locals locals' : List �
   pub room : out'.spare + length (printed_by row) ≡ out.spare
   pub few : length (printed_by row) ≤ 21
 
--- the cell of a shared instruction is one of the program's
+-- the cell or the monitor of a shared instruction is one of the program's
 abbrev pub NextNamesCell : Listing → Next → Type 0
 NextNamesCell p (nexts.Goes pc) = Unit {0}
 NextNamesCell p (nexts.Ends end) = Unit {0}

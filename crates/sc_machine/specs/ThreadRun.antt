@@ -1,9 +1,9 @@
 -- What contracts see of a `ThreadRun`: a thread's state without its output, which lies with the caller.
-use Rattle.std.specs.Prelude.{◌≡◌, ℕ, ◌<◌, List, [], Bool, Option, Some, None}
+use Rattle.std.specs.Prelude.{◌≡◌, ℕ, ◌<◌, length, List, [], Bool, Option, Some, None}
 use Rattle.stride_isa.specs.Listing.{Listing, cell_count}
 use Rattle.sc_machine.specs.declared.end.End.{End}
 use Rattle.sc_machine.specs.declared.stop.Stop.{Stop}
-use Rattle.sc_machine.specs.declared.stop.Stop.TheVariants.{Read, Write, Ended}
+use Rattle.sc_machine.specs.declared.stop.Stop.TheVariants.{Read, Write, Enter, Exit, Ended}
 use Rattle.sc_machine.specs.ThreadStep.{Thread, start_thread, Stands, now, stop_of, answered}
 
 -- a run of one thread of a program, with its fuel
@@ -59,6 +59,8 @@ IsAnswered old new word =
 abbrev pub IsShared : Stop → Type 0
 IsShared (Read cell) = Unit {0}
 IsShared (Write cell value) = Unit {0}
+IsShared (Enter monitor) = Unit {0}
+IsShared (Exit monitor) = Unit {0}
 IsShared (Ended end) = ⊥
 
 -- the stop is a shared instruction, and a word is given exactly where it reads one
@@ -67,14 +69,24 @@ TakesWord (Read cell) (Some word) = Unit {0}
 TakesWord (Read cell) None = ⊥
 TakesWord (Write cell value) (Some word) = ⊥
 TakesWord (Write cell value) None = Unit {0}
+TakesWord (Enter monitor) (Some word) = ⊥
+TakesWord (Enter monitor) None = Unit {0}
+TakesWord (Exit monitor) (Some word) = ⊥
+TakesWord (Exit monitor) None = Unit {0}
 TakesWord (Ended end) word = ⊥
 
 -- the cell is one of the program's, which are 256 at most
 abbrev pub IsCell : Listing → ℕ → Type 0
 IsCell p cell = (cell < cell_count p.decls) × (cell < 256)
 
--- the cell that a stop names is one of the program's
+-- the monitor is one of the program's, which are 64 at most
+abbrev pub IsMonitor : Listing → ℕ → Type 0
+IsMonitor p monitor = (monitor < length p.monitors) × (monitor < 64)
+
+-- the cell or the monitor that a stop names is one of the program's
 abbrev pub NamesCell : Listing → Stop → Type 0
 NamesCell p (Read cell) = IsCell p cell
 NamesCell p (Write cell value) = IsCell p cell
+NamesCell p (Enter monitor) = IsMonitor p monitor
+NamesCell p (Exit monitor) = IsMonitor p monitor
 NamesCell p (Ended end) = Unit {0}

@@ -1,15 +1,16 @@
 -- The step of one thread: what the instruction at its position does, and how its local instructions lead on to the
 -- next shared one or to its end.
-use Rattle.std.specs.Prelude.{ℕ, zero, suc, ◌+◌, ◌-◌, Bool, false, if◌then◌else◌, List, [], ◌∷◌, ◌++◌, replicate, Option, Some, None, nat_lt, unwrap_or, decimal}
+use Rattle.std.specs.Prelude.{ℕ, zero, suc, ◌+◌, ◌-◌, ◌*◌, ◌/◌, ◌%◌, ◌^◌, ◌==◌, Bool, true, false, if◌then◌else◌, List, [], ◌∷◌, ◌++◌, replicate, Option, Some, None, nat_lt, unwrap_or, slice_index, slice_index_or, slice_set, bit_and, bit_or, bit_xor, decimal}
 use Rattle.std.specs.List.{list_any}
-use Rattle.stride_isa.specs.Listing.{Listing, op_at, first_cell}
+use Rattle.stride_isa.specs.Listing.{Listing, op_at, decl_at, cells_of, first_cell}
 use Rattle.stride_isa.specs.declared.op.Op.{Op}
 use Rattle.stride_isa.specs.declared.op.Op.TheVariants as ops
-use Rattle.sc_machine.specs.declared.trap.Trap.TheVariants.{HeldAtHalt}
+use Rattle.sc_machine.specs.declared.trap.Trap.{Trap}
+use Rattle.sc_machine.specs.declared.trap.Trap.TheVariants.{DivZero, Range, Again, NotHeld, HeldAtHalt}
 use Rattle.sc_machine.specs.declared.end.End.{End}
 use Rattle.sc_machine.specs.declared.end.End.TheVariants.{Halted, Trapped, OutOfSteps, Stopped}
 use Rattle.sc_machine.specs.declared.stop.Stop.{Stop}
-use Rattle.sc_machine.specs.declared.stop.Stop.TheVariants.{Read, Write, Ended}
+use Rattle.sc_machine.specs.declared.stop.Stop.TheVariants.{Read, Write, Enter, Exit, Ended}
 
 -- a thread: the position of its next instruction, its operand stack with the topmost word first, its locals, of each
 -- monitor whether the thread holds it, the bytes that it printed, how many instructions it made, and its end or none
@@ -44,15 +45,77 @@ abbrev pub on_top : {X : Type 0} → List ℕ → (ℕ → List ℕ → X) → X
 on_top [] f = f 0 []
 on_top (word ∷ below) f = f word below
 
+-- a function of the topmost word b, of the word a below it, and of the words below both
+abbrev pub on_two : {X : Type 0} → List ℕ → (ℕ → ℕ → List ℕ → X) → X
+on_two stack f = on_top stack (λ b rest. on_top rest (λ a below. f a b below))
+
+-- the thread goes on with the next instruction, with this stack
+abbrev pub next_with : ℕ → List ℕ → List ℕ → Row
+next_with pc stack locals = Goes (pc + 1) stack locals []
+
+-- the thread ends by a trap of the instruction at this position
+abbrev pub traps : Trap → ℕ → Row
+traps trap pc = Ends (Trapped trap pc)
+
+-- what a division by b comes to, which leaves this word
+abbrev pub divided : ℕ → ℕ → ℕ → List ℕ → List ℕ → Row
+divided b word pc below locals = if b == 0 then traps DivZero pc else next_with pc (word ∷ below) locals
+
+-- a truth value as a word
+abbrev pub truth : Bool → ℕ
+truth test = if test then 1 else 0
+
+-- the cell of an array's member, none where the index is not below the array's size
+abbrev pub member_cell : Listing → ℕ → ℕ → Option ℕ
+member_cell p decl index =
+    if nat_lt index (cells_of (decl_at p decl).shape) then Some (first_cell p.decls decl + index) else None
+
+-- what an access to an array's member comes to, by its cell
+abbrev pub on_member : Option ℕ → ℕ → (ℕ → Stop) → Row
+on_member None pc stop = traps Range pc
+on_member (Some cell) pc stop = Stands (stop cell)
+
+-- whether the thread holds the monitor
+abbrev pub holds : List Bool → ℕ → Bool
+holds held monitor = slice_index_or held monitor false
+
 -- the end that a halt gives, by the monitors held
 abbrev pub halt_end : List Bool → ℕ → End
 halt_end held pc = if list_any (λ flag. flag) held then Trapped HeldAtHalt pc else Halted
 
--- what an instruction comes to where it is met at this position, with this stack, these locals and these monitors held
+-- what an instruction comes to where it is met at this position, with this stack, these locals and these monitors held;
+-- words have 64 bits, sums, differences and products wrap, and a shared instruction that traps ends the thread as a
+-- local one does
 abbrev pub row : Listing → Op → ℕ → List ℕ → List ℕ → List Bool → Row
-row p (ops.Push word) pc stack locals held = Goes (pc + 1) (word ∷ stack) locals []
+row p (ops.Push word) pc stack locals held = next_with pc (word ∷ stack) locals
+row p ops.Dup pc stack locals held = on_top stack (λ a below. next_with pc (a ∷ a ∷ below) locals)
+row p ops.Drop pc stack locals held = on_top stack (λ a below. next_with pc below locals)
+row p ops.Swap pc stack locals held = on_two stack (λ a b below. next_with pc (a ∷ b ∷ below) locals)
+row p ops.Over pc stack locals held = on_two stack (λ a b below. next_with pc (a ∷ b ∷ a ∷ below) locals)
+row p ops.Add pc stack locals held = on_two stack (λ a b below. next_with pc (((a + b) % 2 ^ 64) ∷ below) locals)
+row p ops.Sub pc stack locals held = on_two stack (λ a b below. next_with pc (((a + (2 ^ 64 - b)) % 2 ^ 64) ∷ below) locals)
+row p ops.Mul pc stack locals held = on_two stack (λ a b below. next_with pc (((a * b) % 2 ^ 64) ∷ below) locals)
+row p ops.Div pc stack locals held = on_two stack (λ a b below. divided b (a / b) pc below locals)
+row p ops.Rem pc stack locals held = on_two stack (λ a b below. divided b (a % b) pc below locals)
+row p ops.And pc stack locals held = on_two stack (λ a b below. next_with pc (bit_and a b ∷ below) locals)
+row p ops.Or pc stack locals held = on_two stack (λ a b below. next_with pc (bit_or a b ∷ below) locals)
+row p ops.Xor pc stack locals held = on_two stack (λ a b below. next_with pc (bit_xor a b ∷ below) locals)
+row p ops.Shl pc stack locals held = on_two stack (λ a b below. next_with pc (((a * 2 ^ (b % 64)) % 2 ^ 64) ∷ below) locals)
+row p ops.Shr pc stack locals held = on_two stack (λ a b below. next_with pc ((a / 2 ^ (b % 64)) ∷ below) locals)
+row p ops.Eq pc stack locals held = on_two stack (λ a b below. next_with pc (truth (a == b) ∷ below) locals)
+row p ops.Lt pc stack locals held = on_two stack (λ a b below. next_with pc (truth (nat_lt a b) ∷ below) locals)
+row p ops.Not pc stack locals held = on_top stack (λ a below. next_with pc ((2 ^ 64 - 1 - a) ∷ below) locals)
+row p (ops.Get local) pc stack locals held = next_with pc (slice_index locals local ∷ stack) locals
+row p (ops.Set local) pc stack locals held = on_top stack (λ a below. next_with pc below (slice_set locals local a))
+row p (ops.Jump target) pc stack locals held = Goes target stack locals []
+row p (ops.Jz target) pc stack locals held = on_top stack (λ a below. Goes (if a == 0 then target else pc + 1) below locals [])
+row p (ops.Jnz target) pc stack locals held = on_top stack (λ a below. Goes (if a == 0 then pc + 1 else target) below locals [])
 row p (ops.Read decl) pc stack locals held = Stands (Read (first_cell p.decls decl))
 row p (ops.Write decl) pc stack locals held = on_top stack (λ word below. Stands (Write (first_cell p.decls decl) word))
+row p (ops.ReadAt decl) pc stack locals held = on_top stack (λ index below. on_member (member_cell p decl index) pc (λ cell. Read cell))
+row p (ops.WriteAt decl) pc stack locals held = on_two stack (λ word index below. on_member (member_cell p decl index) pc (λ cell. Write cell word))
+row p (ops.Enter monitor) pc stack locals held = if holds held monitor then traps Again pc else Stands (Enter monitor)
+row p (ops.Exit monitor) pc stack locals held = if holds held monitor then Stands (Exit monitor) else traps NotHeld pc
 row p ops.Print pc stack locals held = on_top stack (λ word below. Goes (pc + 1) below locals (decimal word ++ 10 ∷ []))
 row p ops.Halt pc stack locals held = Ends (halt_end held pc)
 
@@ -103,10 +166,14 @@ stop_of p t s = stop_in (now p t s)
 abbrev pub done_stack : Op → List ℕ → ℕ → List ℕ
 done_stack (ops.Read decl) stack word = word ∷ stack
 done_stack (ops.Write decl) stack word = on_top stack (λ top below. below)
+done_stack (ops.ReadAt decl) stack word = on_top stack (λ index below. word ∷ below)
+done_stack (ops.WriteAt decl) stack word = on_two stack (λ value index below. below)
 done_stack op stack word = stack
 
 -- the monitors held after a shared instruction
 abbrev pub done_held : Op → List Bool → List Bool
+done_held (ops.Enter monitor) held = slice_set held monitor true
+done_held (ops.Exit monitor) held = slice_set held monitor false
 done_held op held = held
 
 -- the thread after the shared instruction at which it stands, given the word that it reads, or 0 where it reads none

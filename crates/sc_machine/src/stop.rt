@@ -9,6 +9,10 @@ pub enum Stop {
     Read { cell: u32 },
     /// At a write of this value into this cell.
     Write { cell: u32, value: u64 },
+    /// At an entry into this monitor, which it does not hold.
+    Enter { mon: u32 },
+    /// At an exit from this monitor, which it holds.
+    Exit { mon: u32 },
     /// At its end.
     Ended { end: End },
 }

@@ -114,7 +114,7 @@ impl<'p> ThreadRun<'p> {
     }
 
     /// Makes local instructions up to the next shared one or the end, and tells which it is. What they print is
-    /// appended to `out`, which needs room for it.
+    /// appended to `out`, which needs room for it. A shared instruction that traps is made here, as a local one.
     ///
     /// At a shared instruction, and after the end, it changes nothing.
     pub fn local(&mut self, out: &mut List<u8>) -> Stop
@@ -145,7 +145,13 @@ impl<'p> ThreadRun<'p> {
         ensures same { SameThread self.old self.new }
     {
         let op = self.program.op(self.thread, self.pc);
-        finish(op, word.unwrap_or(0), &mut self.stack, &mut self.held);
+        finish(
+            op,
+            self.program,
+            word.unwrap_or(0),
+            &mut self.stack,
+            &mut self.held,
+        );
         self.pc += 1;
         self.made += 1;
         self.ended = out_of_steps(self.made, self.fuel);
