@@ -44,11 +44,11 @@ cells_long (Ended end) cells = refl
 put_shown : {X : Type 0} (row : List X) (map : ℕ → X) (d : X) (at : ℕ) (value : X) (count : ℕ) → count ≤ length row → ((k : ℕ) → k < count → slice_index_or row k d ≡ map k) → at < count → (k : ℕ) → k < count → slice_index_or (set row at value) k d ≡ put map at value k
 put_shown row map d at value count room shown inside k lt = elim (eqb_tells k at) [
   | inl same ↦
-    let e : k ≡ at = same.1 in
-    ap (λ n. slice_index_or (set row at value) n d) e ∙ get_or-set_same row at value d (omega arith) ∙ ap (λ b. if b then value else map k) (sym same.0)
+      let e : k ≡ at = same.1 in
+      ap (λ n. slice_index_or (set row at value) n d) e ∙ get_or-set_same row at value d (omega arith) ∙ ap (λ b. if b then value else map k) (sym same.0)
   | inr other ↦
-    let differ : k ≢ at = other.1 in
-    get_or-set_other row at k value d differ ∙ shown k lt ∙ ap (λ b. if b then value else map k) (sym other.0)
+      let differ : k ≢ at = other.1 in
+      get_or-set_other row at k value d differ ∙ shown k lt ∙ ap (λ b. if b then value else map k) (sym other.0)
 ]
 
 cells_shown : (table : Table) (m : Machine) (stop : Stop) → IsTable table → Shows table m → NamesCell table.program.now stop → (cell : ℕ) → cell < cell_count table.program.now.decls → slice_index (cells_in stop table.cells) cell ≡ cells_after stop m.cells cell
@@ -70,15 +70,15 @@ holders_shown : (table : Table) (m : Machine) (t : ℕ) (stop : Stop) → IsTabl
 holders_shown table m t (Read cell) is shows named monitor lt = shows.holders monitor lt
 holders_shown table m t (Write cell value) is shows named monitor lt = shows.holders monitor lt
 holders_shown table m t (Enter at) is shows named monitor lt =
-    put_shown table.holders m.holders None at (Some t) 64 (omega (arith, is.monitors)) shows.holders named monitor lt
+    put_shown table.holders m.holders None at (Some t) 64 (omega (arith, is.monitors)) shows.holders named.1 monitor lt
 holders_shown table m t (Exit at) is shows named monitor lt =
-    put_shown table.holders m.holders None at None 64 (omega (arith, is.monitors)) shows.holders named monitor lt
+    put_shown table.holders m.holders None at None 64 (omega (arith, is.monitors)) shows.holders named.1 monitor lt
 holders_shown table m t (Ended end) is shows named monitor lt = shows.holders monitor lt
 
 may_shown : (table : Table) (m : Machine) (t : ℕ) (stop : Stop) → Shows table m → NamesCell table.program.now stop → may_in t stop table.holders ≡ may_pass t stop m.holders
 may_shown table m t (Read cell) shows named = refl
 may_shown table m t (Write cell value) shows named = refl
-may_shown table m t (Enter monitor) shows named = ap (is_free_for t) (shows.holders monitor named)
+may_shown table m t (Enter monitor) shows named = ap (is_free_for t) (shows.holders monitor named.1)
 may_shown table m t (Exit monitor) shows named = refl
 may_shown table m t (Ended end) shows named = refl
 
@@ -128,7 +128,7 @@ module _ (table : Table) (t : ℕ) (old new : Player) (transcript : Listed ℕ) 
       let threads = ap (λ (k : Machine). k.threads) by_stop in
       let cells = ap (λ (k : Machine). k.cells) by_stop in
       let lines = ap (λ (k : Machine). k.transcript) by_stop in (
-        can-standing p t old.stop m there stands ∙ passes old.stop shared,
+        can-standing p t old.stop m there stands ∙ sym (may_shown table m t old.stop shows player.cell) ∙ may,
         record {
           threads = threads
               ∙ ap (λ xs. set xs t (settled p table.fuel t (answered p table.fuel t (word_read old.stop m.cells) (thread_at m t)))) shows.threads
