@@ -172,16 +172,3 @@ module _ (table : Table) (t : ℕ) (old new : Player) (transcript : Listed ℕ) 
   turn_shown is found e may w went m shows =
       let taken = turn_taken table t old new transcript m is (slice_get_within table.players.items t old found) (sym (get_or_from_slice_get table.players.items t old old found)) (ap (λ s. may_in t s table.holders) e ∙ may) (went_at (player_at is found) e w went) shows in
       (taken.0, subst (λ (s : Stop). Shows (table_after table t new s transcript) (turn table.program.now table.fuel t m)) e taken.1)
-
--- a thread that may not go on takes no turn
-pub turn_refused : (table : Table) (t : ℕ) (old : Player) (stop : Stop) → IsTable table → slice_get table.players.items t ≡ Some old → old.stop ≡ stop → may_in t stop table.holders ≡ false → (m : Machine) → Shows table m → can table.program.now t m ≡ false
-turn_refused table t old stop is found e no_way m shows =
-    let lt = slice_get_within table.players.items t old found in
-    let whose = sym (get_or_from_slice_get table.players.items t old old found) in
-    let player : IsPlayer table.program.now table.fuel t old = subst (λ (player : Player). IsPlayer table.program.now table.fuel t player) (sym whose) (is.each t old lt) in
-    let thread = shown_thread table m t old shows lt whose in
-    let there : t < length m.threads = omega (arith, ap length shows.threads, length-map table.players.items thread_of) in
-    let stands : now table.program.now t (thread_at m t) ≡ Stands old.stop = ap (λ s. now table.program.now t s) thread ∙ player.stands in
-    can-standing table.program.now t old.stop m there stands
-    ∙ sym (may_shown table m t old.stop shows player.cell)
-    ∙ ap (λ s. may_in t s table.holders) e ∙ no_way

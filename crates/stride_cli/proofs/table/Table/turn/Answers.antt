@@ -1,7 +1,7 @@
 use Rattle.std.proofs.Common.{◌∙◌, refl, slice_index, sym}
 use Rattle.std.proofs.lemmas.Option.{slice_get_read}
 use Rattle.sc_machine.specs.declared.stop.Stop.TheVariants.{Read, Write, Enter, Exit}
-use Rattle.stride_cli.proofs.Turning.{table_kept, turn_refused, turn_shown}
+use Rattle.stride_cli.proofs.Turning.{table_kept, turn_shown}
 use Rattle.stride_cli.proofs.table.Table.turn.Goals as goal
 
 pub returns-in_ok-answer-in-Read-clause-table : goal.returns-in_ok-answer-in-Read-clause-table
