@@ -141,8 +141,8 @@ macro_rules! sets {
 }
 
 macro_rules! jumps {
-    ($variant:ident ($program:ident $pc:ident $stack:ident $locals:ident $held:ident $out:ident) $target:ident) => {
-        Next::Goes($target)
+    ($variant:ident ($program:ident $pc:ident $stack:ident $locals:ident $held:ident $out:ident) $position:ident) => {
+        Next::Goes($position)
     };
 }
 
