@@ -34,7 +34,7 @@ pub fn offline<S: Source, K: Sink, L: Ledger>(
     words: &[&str],
     source: &mut S,
     sink: &mut K,
-    _steps: &mut Steps<L>,
+    steps: &mut Steps<L>,
 ) -> Status
     // The status with its details, but for a device's fault and want of memory.
     ensures status { IfSome (S.left source.old) (λ bytes. HasStatus result (answer (map (λ word. word.now) words.entry.now) bytes).status) }
@@ -52,7 +52,7 @@ pub fn offline<S: Source, K: Sink, L: Ledger>(
     ensures write_fault { OnWriteFault result (Rose (K.faults sink.old) (K.faults sink.new)) }
     ensures counted { (S.faults source.old ≤ S.faults source.new) × (K.faults sink.old ≤ K.faults sink.new) }
 
-    ensures steps { _steps.new ≡ _steps.old }
+    ensures uncounted { steps.new ≡ steps.old }
 {
     let Some(command) = command_of(words) else {
         return Status::Usage;

@@ -38,7 +38,7 @@ impl Model for Checked {
 }
 
 /// The same program, checked. The program is given up where memory runs out.
-pub fn check(_alloc: Global, program: Program) -> Result<Checked, CheckError>
+pub fn check(alloc: Global, program: Program) -> Result<Checked, CheckError>
     requires { goes_straight program ≡ true }
     ensures { IfOk result (λ checked. checked ≡ program) }
 {
