@@ -1,9 +1,8 @@
--- The steps of the loop that finds the end of a line, and the last byte of a text.
-use Rattle.std.proofs.Common.{◌≡◌, ◌≢◌, ℕ, ◌+◌, ◌-◌, ◌<◌, ◌≤◌, eqb, List, [], ◌∷◌, length, get_or, take, drop, Some, zero, suc, refl, arith}
-use Rattle.std.specs.List.{slice_get}
+-- The steps of the loop that finds the end of a line.
+use Rattle.std.proofs.Common.{◌≡◌, ◌≢◌, ℕ, ◌+◌, ◌<◌, ◌≤◌, List, [], ◌∷◌, length, get_or, take, drop, refl}
 use Rattle.std.proofs.lemmas.Bool.{ne_eqb}
 use Rattle.std.proofs.lemmas.List.{take_more, drop_more, take_all, drop_all}
-use Rattle.assembler.specs.Lines.{lines, ends_lines}
+use Rattle.assembler.specs.Lines.{lines}
 use Rattle.assembler.proofs.Glued.{glued, glued-push, glued-end, glued-none}
 
 -- what the first bytes and the lines of the rest make together
@@ -20,19 +19,5 @@ lines_from-end text i inside feed = rw (drop_more text i 0 inside, feed, glued-e
 
 pub lines_from-all : (text : List ℕ) (i : ℕ) → length text ≤ i → 0 < length text → lines_from text i ≡ text ∷ []
 lines_from-all text i end some = rw (take_all i text end, drop_all i text end) (glued-none text some)
-
-ends_lines-at : (text : List ℕ) (last byte : ℕ) → length text ≡ suc last → Some byte ≡ slice_get text last → eqb byte 10 ≡ ends_lines text
-ends_lines-at [] last byte long there = cc
-ends_lines-at (b ∷ []) zero byte long there = let same : byte ≡ b = cc in rw same refl
-ends_lines-at (b ∷ []) (suc last) byte long there = cc
-ends_lines-at (b ∷ next ∷ bytes) zero byte long there = absurd (omega arith)
-ends_lines-at (b ∷ next ∷ bytes) (suc last) byte long there = ends_lines-at (next ∷ bytes) last byte (omega arith) there
-
--- whether the last byte is a line feed
-pub ends_lines_last : (text : List ℕ) (byte : ℕ) → Some byte ≡ slice_get text (length text - 1) → eqb byte 10 ≡ ends_lines text
-ends_lines_last [] byte there = cc
-ends_lines_last (b ∷ bytes) byte there =
-    let e : suc (length bytes) - 1 ≡ length bytes = omega arith in
-    ends_lines-at (b ∷ bytes) (length bytes) byte refl (rw e at there)
 
 pub ruleset line_steps = (lines_from-more, lines_from-end, lines_from-all)

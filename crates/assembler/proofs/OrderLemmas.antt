@@ -1,72 +1,86 @@
--- Orders word by word.
-use Rattle.std.proofs.Common.{◌≡◌, ℕ, ◌<◌, ◌≤◌, true, false, cond, leb, List, [], ◌∷◌, ◌++◌, length, Option, Some, None, refl, sym, inl, inr, arith}
-use Rattle.std.specs.Option.{option_and_then, option_map}
-use Rattle.std.proofs.lemmas.Bool.{le-leb, lt-leb}
-use Rattle.std.proofs.lemmas.Bool.Decides.{leb_tells}
-use Rattle.std.proofs.lemmas.List.{append-nil, append_assoc, length-append}
-use Rattle.assembler.specs.Numbers.{number}
-use Rattle.assembler.specs.Orders.{order_limit, members, within_limit, with_words}
+-- The steps of the loops that read an order, and what they make together.
+use Rattle.std.proofs.Common.{◌≡◌, ◌≢◌, ℕ, ◌+◌, ◌<◌, ◌≤◌, Bool, true, false, ltb, List, [], ◌∷◌, ◌++◌, length, get_or, take, drop, Option, Some, None, Result, Ok, Err, refl, sym, append_assoc}
+use Rattle.std.specs.Prelude.{if◌then◌else◌}
+use Rattle.std.specs.Option.{option_map}
+use Rattle.std.proofs.lemmas.Bool.{ne_eqb}
+use Rattle.std.proofs.lemmas.Grind.{flat_map-append}
+use Rattle.std.proofs.lemmas.List.{append-nil, take_more, drop_more, take_all, drop_all, length-append, length-replicate}
+use Rattle.assembler.specs.Answers.{IsAnswer}
+use Rattle.assembler.specs.Lines.{lines}
+use Rattle.assembler.specs.Orders.{Halves, OrderWord, Repeated, first_word_fault, halves, members_in, members_of, order_limit, order_of, repeated_of, words_from_line}
+use Rattle.assembler.specs.Programs.{LineFault, or_else, unless_fault}
+use Rattle.assembler.specs.Words.{words_of}
+use Rattle.assembler.specs.declared.asm_error.AsmError.{AsmError}
+use Rattle.assembler.specs.declared.asm_error.AsmError.TheVariants.{Bad, NoMemory}
+use Rattle.assembler.specs.declared.asm_error.AsmKind.TheVariants.{TooMany}
+use Rattle.assembler.specs.OrderReading.{and_then, line_words, with_word, with_words}
 
--- what stands before the members of the words behind
-abbrev prefixed : List ℕ → Option (List ℕ) → Option (List ℕ)
-prefixed front rest = option_map (λ more. front ++ more) rest
+-- the halves of a word, of whose front the first bytes were met
+abbrev pub halves_from : List ℕ → ℕ → Halves
+halves_from word i =
+    let rest = halves (drop i word) in record { front = take i word ++ rest.front; back = rest.back }
 
-member_before : (member : Option ℕ) (rest behind : Option (List ℕ)) → option_and_then (λ n. option_map (λ ns. n ∷ ns) (option_and_then (λ front. prefixed front behind) rest)) member ≡ option_and_then (λ front. prefixed front behind) (option_and_then (λ n. option_map (λ ns. n ∷ ns) rest) member)
-member_before None rest behind = refl
-member_before (Some n) None behind = refl
-member_before (Some n) (Some ns) None = refl
-member_before (Some n) (Some ns) (Some more) = refl
+pub halves_from-more : (word : List ℕ) (i : ℕ) → i < length word → get_or word i 0 ≢ 42 → halves_from word (i + 1) ≡ halves_from word i
+halves_from-more word i inside other =
+    let e = ne_eqb (get_or word i 0) 42 other in
+    rw (take_more word i 0 inside, drop_more word i 0 inside, e, append_assoc) refl
 
-prefixed-none : (rest : Option (List ℕ)) → prefixed [] rest ≡ rest
-prefixed-none None = refl
-prefixed-none (Some more) = refl
+pub halves_from-star : (word : List ℕ) (i : ℕ) → i < length word → get_or word i 0 ≡ 42 → halves_from word i ≡ record { front = take i word; back = Some (drop (i + 1) word) }
+halves_from-star word i inside star = rw (drop_more word i 0 inside, star, append-nil) refl
 
-members-append : (words behind : List (List ℕ)) → members (words ++ behind) ≡ option_and_then (λ front. prefixed front (members behind)) (members words)
-members-append [] behind = sym (prefixed-none (members behind))
-members-append (word ∷ words) behind =
-    rw (members-append words behind) (member_before (number 256 word) (members words) (members behind))
+pub halves_from-end : (word : List ℕ) (i : ℕ) → length word ≤ i → halves_from word i ≡ record { front = word; back = None }
+halves_from-end word i end = rw (take_all i word end, drop_all i word end, append-nil) refl
 
-within_limit-some : (order new : List ℕ) → within_limit order ≡ Some new → order ≡ new
-within_limit-some order new =
-    elim (leb (length order) order_limit) as (λ fits. cond fits (Some order) None ≡ Some new → order ≡ new) [ true ↦ λ e. cc | false ↦ λ e. cc ]
+pub ruleset star_steps = (halves_from-more, halves_from-star, halves_from-end)
 
-within_limit-none : (order more : List ℕ) → within_limit order ≡ None → within_limit (order ++ more) ≡ None
-within_limit-none order more e =
-    elim (leb_tells (length order) order_limit) [
-      | inl fits ↦ let none = rw fits.0 at e in absurd (cc none)
-      | inr past ↦
-          let long : order_limit < length (order ++ more) = simp length-append (omega arith) in
-          let test = lt-leb (length (order ++ more)) order_limit long in
-          rw test refl
-    ]
+and_then_words : (first : Result (List ℕ) LineFault) (rest behind : List OrderWord) → ((more : List ℕ) → with_words more (rest ++ behind) ≡ and_then (with_words more rest) (λ more. with_words more behind)) → and_then first (λ more. with_words more (rest ++ behind)) ≡ and_then (and_then first (λ more. with_words more rest)) (λ more. with_words more behind)
+and_then_words (Ok more) rest behind further = further more
+and_then_words (Err fault) rest behind further = refl
 
-regrouped : (order new : List ℕ) (front : List ℕ) (behind : Option (List ℕ)) → order ++ front ≡ new → option_and_then (λ more. within_limit (order ++ more)) (prefixed front behind) ≡ option_and_then (λ more. within_limit (new ++ more)) behind
-regrouped order new front None e = refl
-regrouped order new front (Some more) e = rw (← e, append_assoc) refl
+with_words-append : (order : List ℕ) (words behind : List OrderWord) → with_words order (words ++ behind) ≡ and_then (with_words order words) (λ more. with_words more behind)
+with_words-append order [] behind = refl
+with_words-append order (w ∷ rest) behind =
+    and_then_words (with_word order w) rest behind (λ more. with_words-append more rest behind)
 
--- where some words give an order, the words behind them go on from there
-with_members-some : (order new : List ℕ) (front behind : Option (List ℕ)) → option_and_then (λ more. within_limit (order ++ more)) front ≡ Some new → option_and_then (λ more. within_limit (order ++ more)) (option_and_then (λ f. prefixed f behind) front) ≡ option_and_then (λ more. within_limit (new ++ more)) behind
-with_members-some order new None behind e = cc
-with_members-some order new (Some front) behind e =
-    regrouped order new front behind (within_limit-some (order ++ front) new e)
+-- one line is read
+pub line_read : (order new : List ℕ) (number : ℕ) (line rest after : List ℕ) (whole : Result (List ℕ) LineFault) → lines rest ≡ line ∷ lines after → with_words order (words_from_line number (lines rest)) ≡ whole → with_words order (line_words number (words_of line)) ≡ Ok new → with_words new (words_from_line (number + 1) (lines after)) ≡ whole
+line_read order new number line rest after whole split reading one =
+    let from = rw (split, with_words-append order (line_words number (words_of line)) (words_from_line (number + 1) (lines after)), one) at reading in
+    from
 
-pub with_words-some : (order new : List ℕ) (words behind : List (List ℕ)) → with_words order words ≡ Some new → with_words order (words ++ behind) ≡ with_words new behind
-with_words-some order new words behind e =
-    rw (members-append words behind) (with_members-some order new (members words) (members behind) e)
+-- a line is refused, and so is the text
+pub line_refused : {X Z : Type 0} (u : X → List ℕ) (v : Z → List ℕ) (error : AsmError) (order : List ℕ) (number : ℕ) (line rest after : List ℕ) (whole : Result (List ℕ) LineFault) → lines rest ≡ line ∷ lines after → with_words order (words_from_line number (lines rest)) ≡ whole → IsAnswer u (Err error) (with_words order (line_words number (words_of line))) → IsAnswer v (Err error) whole
+line_refused u v (Bad kind at) order number line rest after whole split reading one =
+    let from = rw (split, with_words-append order (line_words number (words_of line)) (words_from_line (number + 1) (lines after)), one) at reading in
+    sym from
+line_refused u v NoMemory order number line rest after whole split reading one = tt
 
-past_limit : (order front : List ℕ) (behind : Option (List ℕ)) → within_limit (order ++ front) ≡ None → option_and_then (λ more. within_limit (order ++ more)) (prefixed front behind) ≡ None
-past_limit order front None e = refl
-past_limit order front (Some more) e = rw (← append_assoc) (within_limit-none (order ++ front) more e)
+-- what a reading from a place on gives, where the members of the words before are these
+abbrev rest_of : List OrderWord → List OrderWord → Result (List ℕ) LineFault
+rest_of before rest = unless_fault (first_word_fault before rest) (members_in (before ++ rest))
 
-with_members-none : (order : List ℕ) (front behind : Option (List ℕ)) → option_and_then (λ more. within_limit (order ++ more)) front ≡ None → option_and_then (λ more. within_limit (order ++ more)) (option_and_then (λ f. prefixed f behind) front) ≡ None
-with_members-none order None behind e = refl
-with_members-none order (Some front) behind e = past_limit order front behind e
+members_in-one : (before : List OrderWord) (w : OrderWord) (said : Repeated) → repeated_of w.word ≡ Some said → members_in (before ++ w ∷ []) ≡ members_in before ++ members_of said
+members_in-one before w said e = rw (flat_map-append, e, append-nil) refl
 
-pub with_words-none : (order : List ℕ) (words behind : List (List ℕ)) → with_words order words ≡ None → with_words order (words ++ behind) ≡ None
-with_words-none order words behind e =
-    rw (members-append words behind) (with_members-none order (members words) (members behind) e)
+-- one word, by whether the members are too many with it
+read_if : (over : Bool) (line : ℕ) (fault : Option LineFault) (whole new : List ℕ) (rest : List OrderWord) → unless_fault fault whole ≡ with_words new rest → unless_fault (or_else (option_map (λ kind. record { kind = kind; line = line }) (if over then Some TooMany else None)) fault) whole ≡ and_then (if over then Err (record { kind = TooMany; line = line }) else Ok new) (λ more. with_words more rest)
+read_if true line fault whole new rest further = refl
+read_if false line fault whole new rest further = further
 
-pub with_words-end : (order : List ℕ) → length order ≤ order_limit → with_words order [] ≡ Some order
-with_words-end order fits = let test = le-leb (length order) order_limit fits in rw (append-nil order, test) refl
+-- one word, by what it says
+read_said : (before rest : List OrderWord) (w : OrderWord) (said : Option Repeated) → repeated_of w.word ≡ said → rest_of (before ++ w ∷ []) rest ≡ with_words (members_in (before ++ w ∷ [])) rest → rest_of before (w ∷ rest) ≡ with_words (members_in before) (w ∷ rest)
+read_said before rest w None e further = rw e refl
+read_said before rest w (Some said) e further =
+    let one = members_in-one before w said e in
+    let long : length (members_in (before ++ w ∷ [])) ≡ length (members_in before) + said.times = rw one (simp (length-append, length-replicate)) in
+    rw (e, long) (read_if (ltb order_limit (length (members_in before) + said.times)) w.line _ _ (members_in before ++ members_of said) rest (rw (append_assoc before, one) at further))
 
-pub ruleset word_steps = (with_words-some, with_words-none, with_words-end)
+-- the words from a place on are read behind the members of the words before as they are read one after another
+rest_of-read : (before rest : List OrderWord) → rest_of before rest ≡ with_words (members_in before) rest
+rest_of-read before [] = rw (append-nil before) refl
+rest_of-read before (w ∷ rest) = read_said before rest w (repeated_of w.word) refl (rest_of-read (before ++ w ∷ []) rest)
+
+pub order_of-read : (words : List OrderWord) → order_of words ≡ with_words [] words
+order_of-read words = rest_of-read [] words
+
+pub ruleset line_steps = (line_read, order_of-read)

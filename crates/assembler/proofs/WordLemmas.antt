@@ -1,45 +1,81 @@
--- The steps of the loop that finds the end of a word.
-use Rattle.std.proofs.Common.{◌≡◌, ◌≢◌, ℕ, ◌+◌, ◌<◌, ◌≤◌, List, [], ◌∷◌, length, get_or, take, drop, eqb, cond, true, false, refl, arith}
+-- The steps of the loops that find a comment and a word.
+use Rattle.std.proofs.Common.{◌≡◌, ◌≢◌, ℕ, ◌+◌, ◌<◌, ◌≤◌, List, [], ◌∷◌, ◌++◌, length, get_or, take, drop, true, false, refl, sym, ap, arith, append_assoc}
 use Rattle.std.proofs.lemmas.Bool.{ne_eqb}
-use Rattle.std.proofs.lemmas.List.{take_more, drop_more, take_all, drop_all}
-use Rattle.assembler.specs.Lines.{onto_first}
-use Rattle.assembler.specs.Words.{words_of}
-use Rattle.assembler.specs.Forms.{following, MoreWords}
-use Rattle.assembler.proofs.Glued.{glued, glued-push, glued-end}
+use Rattle.std.proofs.lemmas.List.{take_more, drop_more, take_all, drop_all, append-nil}
+use Rattle.assembler.specs.Words.{is_blank, uncommented, Front, front_of, with_word, plain_words}
 
--- what the first bytes and the words of the rest make together
-abbrev pub words_from : List ℕ → ℕ → List (List ℕ)
-words_from line i = glued (take i line) (words_of (drop i line))
+-- the first bytes and what stands before the comment of the rest
+abbrev pub uncommented_from : List ℕ → ℕ → List ℕ
+uncommented_from line i = take i line ++ uncommented (drop i line)
 
-pub words_from-more : (line : List ℕ) (i : ℕ) → i < length line → get_or line i 0 ≢ 32 → words_from line (i + 1) ≡ words_from line i
-words_from-more line i inside other =
-    let e = ne_eqb (get_or line i 0) 32 other in
-    rw (take_more line i 0 inside, glued-push, drop_more line i 0 inside, e) refl
+pub uncommented_from-more : (line : List ℕ) (i : ℕ) → i < length line → get_or line i 0 ≢ 35 → uncommented_from line (i + 1) ≡ uncommented_from line i
+uncommented_from-more line i inside other =
+    let e = ne_eqb (get_or line i 0) 35 other in
+    rw (take_more line i 0 inside, drop_more line i 0 inside, e, append_assoc) refl
 
-pub words_from-end : (line : List ℕ) (i : ℕ) → i < length line → get_or line i 0 ≡ 32 → words_from line i ≡ take i line ∷ words_of (drop (i + 1) line)
-words_from-end line i inside space = rw (drop_more line i 0 inside, space, glued-end) refl
+pub uncommented_from-end : (line : List ℕ) (i : ℕ) → i < length line → get_or line i 0 ≡ 35 → uncommented_from line i ≡ take i line
+uncommented_from-end line i inside hash = rw (drop_more line i 0 inside, hash, append-nil) refl
 
-pub words_from-all : (line : List ℕ) (i : ℕ) → length line ≤ i → words_from line i ≡ line ∷ []
-words_from-all line i end = rw (take_all i line end, drop_all i line end) (glued-end line [])
+pub uncommented_from-all : (line : List ℕ) (i : ℕ) → length line ≤ i → uncommented_from line i ≡ line
+uncommented_from-all line i end = rw (take_all i line end, drop_all i line end, append-nil) refl
 
-pub ruleset word_steps = (words_from-more, words_from-end, words_from-all)
+pub ruleset comment_steps = (uncommented_from-more, uncommented_from-end, uncommented_from-all)
 
-onto_first-some : (byte : ℕ) (pieces : List (List ℕ)) → 0 < length (onto_first byte pieces)
-onto_first-some byte [] = omega arith
-onto_first-some byte (piece ∷ pieces) = omega arith
+-- a blank in front adds no word
+pub plain_words-blank : (line : List ℕ) (i : ℕ) → i < length line → is_blank (get_or line i 0) ≡ true → plain_words (drop (i + 1) line) ≡ plain_words (drop i line)
+plain_words-blank line i inside blank = rw (drop_more line i 0 inside, blank) refl
 
--- a line has a word, which may be empty
-words_of-some : (line : List ℕ) → 0 < length (words_of line)
-words_of-some [] = omega arith
-words_of-some (byte ∷ bytes) =
-    elim (eqb byte 32) as (λ is_space. 0 < length (cond is_space ([] ∷ words_of bytes) (onto_first byte (words_of bytes)))) [
-      | true ↦ omega arith
-      | false ↦ onto_first-some byte (words_of bytes)
-    ]
+pub plain_words-all : (line : List ℕ) (i : ℕ) → length line ≤ i → plain_words (drop i line) ≡ []
+plain_words-all line i end = rw (drop_all i line end) refl
 
--- a line with two words and more
-pub following_more : (first second line : List ℕ) → following (first ∷ second ∷ words_of line) ≡ MoreWords
-following_more first second line = more (words_of line) (words_of-some line) where
-  more : (words : List (List ℕ)) → 0 < length words → following (first ∷ second ∷ words) ≡ MoreWords
-  more [] some = absurd (omega arith)
-  more (third ∷ words) some = refl
+pub ruleset blank_steps = (plain_words-blank, plain_words-all)
+
+-- the first bytes and the word at the front of the rest
+abbrev pub word_from : List ℕ → ℕ → List ℕ
+word_from line i = take i line ++ (front_of (drop i line)).word
+
+abbrev pub behind_from : List ℕ → ℕ → List (List ℕ)
+behind_from line i = (front_of (drop i line)).behind
+
+pub word_from-more : (line : List ℕ) (i : ℕ) → i < length line → is_blank (get_or line i 0) ≡ false → word_from line (i + 1) ≡ word_from line i
+word_from-more line i inside other = rw (take_more line i 0 inside, drop_more line i 0 inside, other, append_assoc) refl
+
+front_of-more : (line : List ℕ) (i : ℕ) → i < length line → is_blank (get_or line i 0) ≡ false → front_of (drop i line) ≡ record { word = get_or line i 0 ∷ (front_of (drop (i + 1) line)).word; behind = (front_of (drop (i + 1) line)).behind }
+front_of-more line i inside other = rw (drop_more line i 0 inside, other) refl
+
+front_of-end : (line : List ℕ) (i : ℕ) → i < length line → is_blank (get_or line i 0) ≡ true → front_of (drop i line) ≡ record { word = []; behind = plain_words (drop (i + 1) line) }
+front_of-end line i inside blank = rw (drop_more line i 0 inside, blank) refl
+
+front_of-all : (line : List ℕ) (i : ℕ) → length line ≤ i → front_of (drop i line) ≡ record { word = []; behind = [] }
+front_of-all line i end = rw (drop_all i line end) refl
+
+pub behind_from-more : (line : List ℕ) (i : ℕ) → i < length line → is_blank (get_or line i 0) ≡ false → behind_from line (i + 1) ≡ behind_from line i
+behind_from-more line i inside other = ap (λ (f : Front). f.behind) (sym (front_of-more line i inside other))
+
+pub word_from-end : (line : List ℕ) (i : ℕ) → i < length line → is_blank (get_or line i 0) ≡ true → word_from line i ≡ take i line
+word_from-end line i inside blank = rw (drop_more line i 0 inside, blank, append-nil) refl
+
+pub behind_from-end : (line : List ℕ) (i : ℕ) → i < length line → is_blank (get_or line i 0) ≡ true → behind_from line i ≡ plain_words (drop (i + 1) line)
+behind_from-end line i inside blank = ap (λ (f : Front). f.behind) (front_of-end line i inside blank)
+
+pub word_from-all : (line : List ℕ) (i : ℕ) → length line ≤ i → word_from line i ≡ line
+word_from-all line i end = rw (take_all i line end, drop_all i line end, append-nil) refl
+
+pub behind_from-all : (line : List ℕ) (i : ℕ) → length line ≤ i → behind_from line i ≡ []
+behind_from-all line i end = ap (λ (f : Front). f.behind) (front_of-all line i end)
+
+pub ruleset word_steps = (word_from-more, behind_from-more, word_from-end, behind_from-end, word_from-all, behind_from-all)
+
+-- a line that begins with no blank has a word there
+pub front_of-some : (line : List ℕ) → 0 < length line → is_blank (get_or line 0 0) ≡ false → 0 < length (front_of line).word
+front_of-some [] some other = absurd (omega arith)
+front_of-some (byte ∷ bytes) some other = rw other (omega arith)
+
+with_word-some : (word : List ℕ) (words : List (List ℕ)) → 0 < length word → with_word word words ≡ word ∷ words
+with_word-some [] words some = absurd (omega arith)
+with_word-some (byte ∷ bytes) words some = refl
+
+pub plain_words-some : (line : List ℕ) → 0 < length line → is_blank (get_or line 0 0) ≡ false → plain_words line ≡ (front_of line).word ∷ (front_of line).behind
+plain_words-some line some other = with_word-some _ _ (front_of-some line some other)
+
+pub ruleset word_facts = (front_of-some, plain_words-some)

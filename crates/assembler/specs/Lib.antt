@@ -1,11 +1,15 @@
 pub mod Answers
+pub mod Canonical
 pub mod Forms
-pub mod Inputs
+pub mod Labels
+pub mod Laws
 pub mod Lines
 pub mod Naming
 pub mod Numbers
+pub mod OrderReading
 pub mod Orders
 pub mod Programs
+pub mod Refusals
 pub mod Seen
 pub mod Splits
 pub mod Words

@@ -1,5 +1,5 @@
 -- The lines of a text.
-use Rattle.std.specs.Prelude.{ℕ, ◌==◌, Bool, true, if◌then◌else◌, List, [], ◌∷◌}
+use Rattle.std.specs.Prelude.{ℕ, ◌==◌, if◌then◌else◌, List, [], ◌∷◌}
 
 -- the lists with a byte in front of the first of them, which is a list of its own where there is none
 abbrev pub onto_first : ℕ → List (List ℕ) → List (List ℕ)
@@ -11,9 +11,3 @@ onto_first byte (piece ∷ pieces) = (byte ∷ piece) ∷ pieces
 abbrev pub lines : List ℕ → List (List ℕ)
 lines [] = []
 lines (byte ∷ bytes) = if byte == 10 then [] ∷ lines bytes else onto_first byte (lines bytes)
-
--- whether each line ends with a line feed: the text is empty, or its last byte is one
-abbrev pub ends_lines : List ℕ → Bool
-ends_lines [] = true
-ends_lines (byte ∷ []) = byte == 10
-ends_lines (byte ∷ next ∷ bytes) = ends_lines (next ∷ bytes)

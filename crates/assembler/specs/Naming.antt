@@ -1,4 +1,4 @@
--- Names of declarations and their positions, as the assembler keeps them.
+-- Names and their positions, as the assembler keeps them.
 use Rattle.std.specs.Prelude.{ℕ, List, Option}
 use Rattle.std.specs.BTreeMap.{get_by}
 use Rattle.std.specs.Cmp.Lexicographic.{slice_cmp}

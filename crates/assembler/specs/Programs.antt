@@ -1,102 +1,151 @@
--- The program that a text spells.
-use Rattle.std.specs.Prelude.{ℕ, ◌+◌, ◌||◌, Bool, true, false, not, nat_lt, nat_le, if◌then◌else◌, List, [], ◌∷◌, length, map, reverse, Option, Some, None, is_none, unwrap_or, option_and_then}
+-- The program that a text spells, or the first line that is refused.
+use Rattle.std.specs.Prelude.{ℕ, ◌+◌, ◌||◌, Bool, true, false, not, nat_lt, nat_le, if◌then◌else◌, List, [], ◌∷◌, length, map, reverse, Option, Some, None, is_none, unwrap_or, Result, Ok, Err}
 use Rattle.std.specs.Option.{option_map}
 use Rattle.std.specs.Str.{bytes_eq}
-use Rattle.stride_isa.specs.Listing.{Listing, empty, is_taken, cell_count, instruction_count, with_decl, with_thread, with_op}
-use Rattle.stride_isa.specs.Straight.{is_straight}
-use Rattle.stride_isa.specs.declared.decl.Decl.{Decl}
-use Rattle.stride_isa.specs.declared.decl.Shape.TheVariants.{Single}
+use Rattle.stride_isa.specs.Listing.{Listing, empty, is_taken, cell_count, instruction_count, with_decl, with_monitor, with_thread, with_op}
+use Rattle.stride_isa.specs.declared.decl.Shape.TheVariants.{Single, Array}
 use Rattle.stride_isa.specs.declared.op.Op.{Op}
-use Rattle.stride_isa.specs.declared.op.Op.TheVariants.{Push, Read, Write, Print, Halt}
+use Rattle.stride_isa.specs.declared.op.Op.TheVariants as ops
+use Rattle.stride_isa.specs.declared.op.OpKind.{OpKind}
+use Rattle.stride_isa.specs.declared.op.OpKind.TheVariants as kinds
 use Rattle.assembler.specs.Forms.{Form, form_of}
-use Rattle.assembler.specs.Forms.{VarLine, ThreadLine, PushLine, ReadLine, WriteLine, PrintLine, HaltLine, Malformed}
-use Rattle.assembler.specs.Lines.{lines, ends_lines}
+use Rattle.assembler.specs.Forms.{Blank, VarLine, ArrayLine, MonitorLine, ThreadLine, LabelLine, WholeLine, JumpLine, AccessLine, TurnLine, Malformed}
+use Rattle.assembler.specs.Labels.{Labels, labels_at, is_instruction}
+use Rattle.assembler.specs.Lines.{lines}
 use Rattle.assembler.specs.Words.{words_of}
+use Rattle.assembler.specs.declared.asm_error.AsmKind.{AsmKind}
+use Rattle.assembler.specs.declared.asm_error.AsmKind.TheVariants.{BadLine, BadNumber, UnknownName, Twice, TooMany}
+
+-- the position of a name in a row of names
+abbrev pub find_name : List ℕ → List (List ℕ) → Option ℕ
+find_name name [] = None
+find_name name (other ∷ others) = if bytes_eq other name then Some 0 else option_map (λ at. at + 1) (find_name name others)
 
 -- the position of the declaration of this name
-abbrev pub find_decl : List ℕ → List Decl → Option ℕ
-find_decl name [] = None
-find_decl name (decl ∷ decls) = if bytes_eq decl.name name then Some 0 else option_map (λ at. at + 1) (find_decl name decls)
+abbrev pub find_decl : List ℕ → Listing → Option ℕ
+find_decl name p = find_name name (map (λ d. d.name) p.decls)
+
+-- the position of the monitor of this name
+abbrev pub find_monitor : List ℕ → Listing → Option ℕ
+find_monitor name p = find_name name p.monitors
 
 -- whether a thread has begun
 abbrev pub has_thread : Listing → Bool
 has_thread p = nat_lt 0 (length p.threads)
 
--- the line is of no form or stands in the wrong part: declarations stand before the first thread, and instructions
+-- the line is of no form or stands in the wrong part: declarations stand before the first thread, labels and instructions
 -- in a thread. Here and below the program is that of the lines before
 abbrev pub is_bad_line : Listing → Form → Bool
 is_bad_line p Malformed = true
-is_bad_line p (VarLine name start) = has_thread p
+is_bad_line p Blank = false
 is_bad_line p ThreadLine = false
+is_bad_line p (VarLine name start) = has_thread p
+is_bad_line p (ArrayLine name size start) = has_thread p
+is_bad_line p (MonitorLine name) = has_thread p
 is_bad_line p form = not (has_thread p)
 
--- the line names what is not declared
-abbrev pub is_unknown : Listing → Form → Bool
-is_unknown p (ReadLine name) = is_none (find_decl name p.decls)
-is_unknown p (WriteLine name) = is_none (find_decl name p.decls)
-is_unknown p form = false
+-- a word where a number is wanted is no number of the range
+abbrev pub is_bad_number : Form → Bool
+is_bad_number (VarLine name start) = is_none start
+is_bad_number (ArrayLine name size start) = is_none size || is_none start
+is_bad_number (WholeLine op) = is_none op
+is_bad_number form = false
 
--- the line declares a name that is declared
-abbrev pub is_twice : Listing → Form → Bool
-is_twice p (VarLine name start) = is_taken p name
-is_twice p form = false
+-- the line names what is not there
+abbrev pub is_unknown : Labels → Listing → Form → Bool
+is_unknown labels p (JumpLine kind name) = is_none (labels.place name)
+is_unknown labels p (AccessLine kind name) = is_none (find_decl name p)
+is_unknown labels p (TurnLine kind name) = is_none (find_monitor name p)
+is_unknown labels p form = false
 
--- the line is one more than a program may have: a cell, a thread, an instruction
+-- the line declares a name that is declared, or is a label that stands on an earlier line of the thread
+abbrev pub is_twice : Labels → Listing → Form → Bool
+is_twice labels p (VarLine name start) = is_taken p name
+is_twice labels p (ArrayLine name size start) = is_taken p name
+is_twice labels p (MonitorLine name) = is_taken p name
+is_twice labels p (LabelLine name) = labels.stands name
+is_twice labels p form = false
+
+-- whether a program with so many more cells has more than it may have
+abbrev pub overfills : Listing → ℕ → Bool
+overfills p size = nat_lt 256 (cell_count p.decls + size)
+
+-- the line is one more than a program may have: of cells, monitors, threads or instructions
 abbrev pub is_too_many : Listing → Form → Bool
-is_too_many p Malformed = false
-is_too_many p (VarLine name start) = nat_lt 256 (cell_count p.decls + 1)
+is_too_many p (VarLine name start) = overfills p 1
+is_too_many p (ArrayLine name size start) = overfills p (unwrap_or size 0)
+is_too_many p (MonitorLine name) = nat_le 64 (length p.monitors)
 is_too_many p ThreadLine = nat_le 16 (length p.threads)
-is_too_many p form = nat_le 65536 (instruction_count p.threads)
+is_too_many p form = if is_instruction form then nat_le 65536 (instruction_count p.threads) else false
 
--- the line is refused
-abbrev pub is_refused : Listing → Form → Bool
-is_refused p form = is_bad_line p form || (is_unknown p form || (is_twice p form || is_too_many p form))
+-- what is wrong with the line: the first kind in this order, or nothing
+abbrev pub refusal : Labels → Listing → Form → Option AsmKind
+refusal labels p form =
+    if is_bad_line p form then Some BadLine else (if is_bad_number form then Some BadNumber else (if is_unknown labels p form then Some UnknownName else (if is_twice labels p form then Some Twice else (if is_too_many p form then Some TooMany else None))))
 
--- the position that an access has as its operand
-abbrev pub operand : List ℕ → Listing → ℕ
-operand name p = unwrap_or (find_decl name p.decls) 0
+-- the instruction of this kind that names what stands at a position
+abbrev pub naming : OpKind → ℕ → Op
+naming kinds.Jump at = ops.Jump at
+naming kinds.Jz at = ops.Jz at
+naming kinds.Jnz at = ops.Jnz at
+naming kinds.Read at = ops.Read at
+naming kinds.Write at = ops.Write at
+naming kinds.ReadAt at = ops.ReadAt at
+naming kinds.WriteAt at = ops.WriteAt at
+naming kinds.Enter at = ops.Enter at
+naming kinds.Exit at = ops.Exit at
+naming kind at = ops.Halt
 
 -- the program with what the line adds to it
-abbrev pub added : Form → Listing → Listing
-added (VarLine name start) p = with_decl p (record { name = name; shape = Single; start = start })
-added ThreadLine p = with_thread p
-added (PushLine word) p = with_op p (Push word)
-added (ReadLine name) p = with_op p (Read (operand name p))
-added (WriteLine name) p = with_op p (Write (operand name p))
-added PrintLine p = with_op p Print
-added HaltLine p = with_op p Halt
-added Malformed p = p
+abbrev pub added : Labels → Listing → Form → Listing
+added labels p (VarLine name start) = with_decl p (record { name = name; shape = Single; start = unwrap_or start 0 })
+added labels p (ArrayLine name size start) = with_decl p (record { name = name; shape = Array (unwrap_or size 0); start = unwrap_or start 0 })
+added labels p (MonitorLine name) = with_monitor p name
+added labels p ThreadLine = with_thread p
+added labels p (WholeLine op) = with_op p (unwrap_or op ops.Halt)
+added labels p (JumpLine kind name) = with_op p (naming kind (unwrap_or (labels.place name) 0))
+added labels p (AccessLine kind name) = with_op p (naming kind (unwrap_or (find_decl name p) 0))
+added labels p (TurnLine kind name) = with_op p (naming kind (unwrap_or (find_monitor name p) 0))
+added labels p form = p
 
--- the program that lines make, the last of which stands first
-abbrev pub made : List Form → Listing
-made [] = empty
-made (form ∷ before) = added form (made before)
+-- the program of the lines before a place, the last of which stands first, where these lines stand from it on
+abbrev pub made : List Form → List Form → Listing
+made [] rest = empty
+made (form ∷ before) rest = added (labels_at before (form ∷ rest)) (made before (form ∷ rest)) form
 
--- whether a line of the rest is refused behind those before it, the last of which stands first
-abbrev pub has_fault : List Form → List Form → Bool
-has_fault before [] = false
-has_fault before (form ∷ rest) = is_refused (made before) form || has_fault (form ∷ before) rest
+-- a refused line: what is wrong with it, and its number, counted from 1
+pub record LineFault : Type 0 where
+  pub kind : AsmKind
+  pub line : ℕ
+
+-- what is wrong with the first of the lines from a place on
+abbrev pub fault_of : List Form → Form → List Form → Option LineFault
+fault_of before form rest =
+    option_map (λ kind. record { kind = kind; line = length before + 1 }) (refusal (labels_at before (form ∷ rest)) (made before (form ∷ rest)) form)
+
+-- the first where there is one, or else the second
+abbrev pub or_else : {X : Type 0} → Option X → Option X → Option X
+or_else (Some x) second = Some x
+or_else None second = second
+
+-- the first fault of the lines from a place on
+abbrev pub first_fault : List Form → List Form → Option LineFault
+first_fault before [] = None
+first_fault before (form ∷ rest) = or_else (fault_of before form rest) (first_fault (form ∷ before) rest)
+
+-- a value where there is no fault
+abbrev pub unless_fault : {X : Type 0} → Option LineFault → X → Result X LineFault
+unless_fault None x = Ok x
+unless_fault (Some fault) x = Err fault
 
 -- what the lines of a text say
 abbrev pub forms_in : List ℕ → List Form
 forms_in text = map (λ line. form_of (words_of line)) (lines text)
 
--- the program that all lines of a text make, where none of them is refused
-abbrev pub made_of : List Form → Option Listing
-made_of forms = if has_fault [] forms then None else Some (made (reverse forms))
+-- the program that lines make, or their first fault: each line is judged between all lines before it and all lines behind it
+abbrev pub program_of : List Form → Result Listing LineFault
+program_of forms = unless_fault (first_fault [] forms) (made (reverse forms) [])
 
--- the program where the code of each of its threads is straight
-abbrev pub where_straight : Listing → Option Listing
-where_straight p = if is_straight p then Some p else None
-
--- the program that the text spells: each line ends, none is refused, and the code of each thread is straight
-abbrev pub spelled : List ℕ → Option Listing
-spelled text = if ends_lines text then option_and_then where_straight (made_of (forms_in text)) else None
-
--- the program with what the line adds to it, where the line is not refused
-abbrev pub next : Listing → Form → Option Listing
-next p form = if is_refused p form then None else Some (added form p)
-
--- the program with one more instruction, where a thread has begun and has room for it
-abbrev pub with_op_behind : Listing → Op → Option Listing
-with_op_behind p op = if not (has_thread p) || nat_le 65536 (instruction_count p.threads) then None else Some (with_op p op)
+-- the program that the text spells, or its first fault
+abbrev pub spelled : List ℕ → Result Listing LineFault
+spelled text = program_of (forms_in text)

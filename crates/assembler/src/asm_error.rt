@@ -1,35 +1,37 @@
 //! `AsmError`: why a text was not read.
-use crate::refusal::Refusal;
+use stride_base::NoMemory as OutOfMemory;
 
-/// What is wrong with a text.
+/// What is wrong with a line, in the order in which one line's faults are told.
 #[derive(Clone, Copy, Debug, PartialEq, Eq)]
 pub enum AsmKind {
-    /// Some line is not of the form that it has to be, or lacks its line feed.
+    /// The line is of no form, stands in the wrong part, has a word too many or too few, or has no name where one is wanted.
     BadLine,
+    /// A word where a number is wanted is no number of the range.
+    BadNumber,
+    /// What the line names is not there.
+    UnknownName,
+    /// The name or the label stands on an earlier line.
+    Twice,
+    /// The line is one more than there may be: of cells, monitors, threads, instructions or members of an order.
+    TooMany,
 }
 
 /// Why a text was not read.
 #[derive(Clone, Copy, Debug, PartialEq, Eq)]
 pub enum AsmError {
-    /// The text is refused. Lines are counted from 1, and 0 stands for the whole text.
+    /// The text is refused for its first fault, on this line. Lines are counted from 1.
     Bad { kind: AsmKind, line: u32 },
     /// Memory ran out.
     NoMemory,
 }
 
-impl From<Refusal> for AsmError {
+impl From<OutOfMemory> for AsmError {
     ghost use Rattle.std.specs.Prelude.{◌≡◌};
-    ghost use Rattle.assembler.specs.Answers.{told};
+    ghost use Rattle.assembler.specs.declared.asm_error.AsmError.TheVariants.{NoMemory};
 
-    ghost from_gives = { λ refusal error. error ≡ told refusal };
+    ghost from_gives = { λ _ error. error ≡ NoMemory };
 
-    fn from(refusal: Refusal) -> AsmError {
-        match refusal {
-            Refusal::Bad => AsmError::Bad {
-                kind: AsmKind::BadLine,
-                line: 0,
-            },
-            Refusal::NoMemory => AsmError::NoMemory,
-        }
+    fn from(_cause: OutOfMemory) -> AsmError {
+        AsmError::NoMemory
     }
 }

@@ -1,54 +1,59 @@
 //! `assemble`: the program that a text spells.
-ghost use Rattle.std.specs.Prelude.{◌≡◌, true, IfOk};
-ghost use Rattle.stride_isa.specs.Straight.{is_straight};
-ghost use Rattle.assembler.specs.Answers.{Gives, IsAnswer};
-ghost use Rattle.assembler.specs.Programs.{forms_in, made_of, spelled};
+ghost use Rattle.std.specs.Prelude.{◌≡◌, ◌≤◌, length, OnOk};
+ghost use Rattle.assembler.specs.Answers.{IsAnswer};
+ghost use Rattle.assembler.specs.Forms.{form_of};
+ghost use Rattle.assembler.specs.Programs.{added, forms_in, refusal, spelled};
+ghost use Rattle.assembler.specs.Refusals.{Refuses};
+ghost use Rattle.assembler.specs.Seen.{labels_seen, labels_behind, IsInStep};
+ghost use Rattle.assembler.specs.Words.{words_of};
 
 use crate::asm_error::AsmError;
 use crate::assembly::Assembly;
 use crate::line::line_at;
-use crate::lines::{ends_with_line_feed, take_line};
+use crate::lines::take_line;
 use crate::refusal::Refusal;
+use crate::thread_labels::ThreadLabels;
 use std::alloc::Global;
 use stride_isa::Program;
 
-#[tactic(auto, using(crate::proofs::ReadingLemmas::reading_steps))]
-fn read_lines(alloc: Global, text: &[u8]) -> Result<Program, Refusal>
-    ensures { Gives (λ program. program) result (made_of (forms_in text.now)) }
+// Reads a line, behind which the text goes on with `after`.
+fn read_line<'a>(
+    alloc: Global,
+    assembly: &mut Assembly<'a>,
+    labels: &mut ThreadLabels<'a>,
+    bytes: &'a [u8],
+    after: &'a [u8],
+) -> Result<(), Refusal>
+    requires step { IsInStep assembly.old }
+    requires short { length after.now ≤ 268435456 }
+    ensures refused { Refuses (refusal (labels_seen labels.old) assembly.old.program (form_of (words_of bytes.now))) result }
+    ensures added { OnOk result (assembly.new.program ≡ added (labels_seen labels.old) assembly.old.program (form_of (words_of bytes.now))) }
+    ensures labels { OnOk result (labels_seen labels.new ≡ labels_behind (labels_seen labels.old) (form_of (words_of bytes.now)) (forms_in after.now)) }
+    ensures step { OnOk result (IsInStep assembly.new) }
 {
+    let line = line_at(bytes);
+    assembly.add(line, labels)?;
+    labels.pass(alloc, line, after)?;
+    Ok(())
+}
+
+/// The program that the text spells, or the first line that is refused.
+pub fn assemble(alloc: Global, text: &[u8]) -> Result<Program, AsmError>
+    requires { length text.now ≤ 268435456 }
+    ensures { IsAnswer (λ program. program) result (spelled text.now) }
+{
+    let Ok(mut labels) = ThreadLabels::of(alloc, text) else {
+        return Err(AsmError::NoMemory);
+    };
     let mut assembly = Assembly::new(alloc);
     let mut rest = text;
-    while let Some((line, after)) = take_line(rest) {
-        assembly.add(line_at(line))?;
+    let mut number = 1;
+    while let Some((bytes, after)) = take_line(rest) {
+        if let Err(refusal) = read_line(alloc, &mut assembly, &mut labels, bytes, after) {
+            return Err(refusal.at(number));
+        }
         rest = after;
+        number += 1;
     }
     Ok(assembly.into_program())
-}
-
-/// The program that the text spells, as `assemble` gives it.
-pub(crate) fn program_of(alloc: Global, text: &[u8]) -> Result<Program, Refusal>
-    ensures spelled { Gives (λ program. program) result (spelled text.now) }
-    ensures straight { IfOk result (λ program. is_straight program ≡ true) }
-{
-    if !ends_with_line_feed(text) {
-        return Err(Refusal::Bad);
-    }
-    let program = read_lines(alloc, text)?;
-    if !program.is_straight() {
-        return Err(Refusal::Bad);
-    }
-    Ok(program)
-}
-
-/// The program that the text spells.
-///
-/// The text has lines that each end with a line feed, with words divided by single spaces: first at most 256 lines
-/// `var NAME START`, then at most 16 threads, each a line `thread` and lines `push N`, `print`, `read NAME`,
-/// `write NAME` and, last and only there, `halt`. At most 65,536 instructions stand together, and the stack of a thread
-/// has 0 to 64 words throughout. Any other text is a bad line at line 0.
-pub fn assemble(alloc: Global, text: &[u8]) -> Result<Program, AsmError>
-    ensures spelled { IsAnswer (λ program. program) result (spelled text.now) }
-    ensures straight { IfOk result (λ program. is_straight program ≡ true) }
-{
-    Ok(program_of(alloc, text)?)
 }

@@ -1,23 +1,45 @@
 //! `Assembly`: a program while its lines are read.
-ghost use Rattle.std.specs.Prelude.{◌≡◌, ◌<◌, false, true, length, OnOk};
-ghost use Rattle.stride_isa.specs.Listing.{empty};
+ghost use Rattle.std.specs.Prelude.{◌≡◌, true, false, unwrap_or, nat_le, OnOk};
+ghost use Rattle.stride_isa.specs.Listing.{empty, is_taken, cells_of, instruction_count, with_decl, with_op};
 ghost use Rattle.stride_isa.specs.Names.{is_name};
-ghost use Rattle.assembler.specs.Answers.{Gives};
-ghost use Rattle.assembler.specs.Forms.{VarLine, ThreadLine, ReadLine, WriteLine, DeclaresName};
-ghost use Rattle.assembler.specs.Programs.{next, with_op_behind};
-ghost use Rattle.assembler.specs.Seen.{form, IsInStep};
+ghost use Rattle.stride_isa.specs.WellFormed.{HasSize};
+ghost use Rattle.assembler.specs.Forms.{VarLine, ArrayLine, MonitorLine, ThreadLine, WholeLine};
+ghost use Rattle.assembler.specs.Programs.{added, has_thread, naming as naming_op, overfills, refusal};
+ghost use Rattle.assembler.specs.Refusals.{Refuses, no_labels, wrong_by, wrong_label, wrong_naming};
+ghost use Rattle.assembler.specs.Seen.{form, labels_seen, IsInStep, IsWellDeclared};
 
+use crate::asm_error::AsmKind;
 use crate::line::Line;
 use crate::names::Names;
 use crate::refusal::Refusal;
+use crate::thread_labels::ThreadLabels;
 use std::alloc::Global;
-use stride_isa::{Decl, Name, Op, Program, Shape};
+use stride_isa::{Decl, Name, Op, OpKind, Program, Shape};
 
-/// A program as far as its lines were read.
+// The instruction of this kind that names what stands at a position.
+fn naming(kind: OpKind, at: u32) -> Op
+    ensures { result ≡ naming_op kind at }
+{
+    match kind {
+        OpKind::Jump => Op::Jump(at),
+        OpKind::Jz => Op::Jz(at),
+        OpKind::Jnz => Op::Jnz(at),
+        OpKind::Read => Op::Read(at),
+        OpKind::Write => Op::Write(at),
+        OpKind::ReadAt => Op::ReadAt(at),
+        OpKind::WriteAt => Op::WriteAt(at),
+        OpKind::Enter => Op::Enter(at),
+        OpKind::Exit => Op::Exit(at),
+        _ => Op::Halt,
+    }
+}
+
+/// A program as far as its lines were read. Contracts judge a line that looks at no label by `no_labels`.
 #[derive(Drop)]
 pub(crate) struct Assembly<'a> {
     program: Program,
-    names: Names<'a>,
+    decls: Names<'a>,
+    monitors: Names<'a>,
     // Whether a thread has begun.
     begun: bool,
 }
@@ -30,7 +52,8 @@ impl<'a> Assembly<'a> {
     {
         Assembly {
             program: Program::new(alloc),
-            names: Names::new(alloc),
+            decls: Names::new(alloc),
+            monitors: Names::new(alloc),
             begun: false,
         }
     }
@@ -41,52 +64,89 @@ impl<'a> Assembly<'a> {
     {
         let Assembly {
             program,
-            names: _,
+            decls: _,
+            monitors: _,
             begun: _,
         } = self;
         program
     }
 
-    /// Adds what the line says. After a refusal nothing more may be added.
-    pub(crate) fn add(&mut self, line: Line<'a>) -> Result<(), Refusal>
-        requires step { IsInStep self.old }
-        requires named { DeclaresName (form line) }
-        ensures added { Gives (λ _. self.new.program) result (next self.old.program (form line.entry)) }
-        ensures step { OnOk result (IsInStep self.new) }
-    {
-        match line {
-            Line::Var { name, start } => self.add_var(name, start),
-            Line::Thread => self.add_thread(),
-            Line::Push(word) => self.add_op(Op::Push(word)),
-            Line::Read(name) => self.add_read(name),
-            Line::Write(name) => self.add_write(name),
-            Line::Print => self.add_op(Op::Print),
-            Line::Halt => self.add_op(Op::Halt),
-            Line::Malformed => Err(Refusal::Bad),
-        }
-    }
-
-    fn add_var(&mut self, word: &'a [u8], start: u64) -> Result<(), Refusal>
+    // Adds a declaration before any thread.
+    fn add_decl(&mut self, word: &'a [u8], shape: Shape, start: u64) -> Result<(), Refusal>
         requires step { IsInStep self.old }
         requires named { is_name word.now ≡ true }
-        ensures added { Gives (λ _. self.new.program) result (next self.old.program (VarLine word.now start)) }
+        requires size { HasSize shape }
+        ensures refused { Refuses (wrong_by (is_taken self.old.program word.now) (overfills self.old.program (cells_of shape))) result }
+        ensures added { OnOk result (self.new.program ≡ with_decl self.old.program (record { name = word.now; shape = shape; start = start })) }
+        ensures step { OnOk result (IsInStep self.new) }
+    {
+        let Some(name) = Name::of(word) else {
+            unreachable!()
+        };
+        let position = self.program.add_cells(Decl { name, shape, start })?;
+        self.decls.insert(word, position)?;
+        Ok(())
+    }
+
+    fn add_var(&mut self, word: &'a [u8], start: Option<u64>) -> Result<(), Refusal>
+        requires step { IsInStep self.old }
+        requires named { is_name word.now ≡ true }
+        ensures refused { Refuses (refusal no_labels self.old.program (VarLine word.now start)) result }
+        ensures added { OnOk result (self.new.program ≡ added no_labels self.old.program (VarLine word.now start)) }
         ensures step { OnOk result (IsInStep self.new) }
     {
         if self.begun {
-            return Err(Refusal::Bad);
+            return Err(Refusal::Bad(AsmKind::BadLine));
+        }
+        let Some(start) = start else {
+            return Err(Refusal::Bad(AsmKind::BadNumber));
+        };
+        self.add_decl(word, Shape::Single, start)
+    }
+
+    fn add_array(
+        &mut self,
+        word: &'a [u8],
+        size: Option<u32>,
+        start: Option<u64>,
+    ) -> Result<(), Refusal>
+        requires step { IsInStep self.old }
+        requires declared { IsWellDeclared (ArrayLine word.now size start) }
+        ensures refused { Refuses (refusal no_labels self.old.program (ArrayLine word.now size start)) result }
+        ensures added { OnOk result (self.new.program ≡ added no_labels self.old.program (ArrayLine word.now size start)) }
+        ensures step { OnOk result (IsInStep self.new) }
+    {
+        if self.begun {
+            return Err(Refusal::Bad(AsmKind::BadLine));
+        }
+        let (Some(size), Some(start)) = (size, start) else {
+            return Err(Refusal::Bad(AsmKind::BadNumber));
+        };
+        self.add_decl(word, Shape::Array(size), start)
+    }
+
+    fn add_monitor(&mut self, word: &'a [u8]) -> Result<(), Refusal>
+        requires step { IsInStep self.old }
+        requires named { is_name word.now ≡ true }
+        ensures refused { Refuses (refusal no_labels self.old.program (MonitorLine word.now)) result }
+        ensures added { OnOk result (self.new.program ≡ added no_labels self.old.program (MonitorLine word.now)) }
+        ensures step { OnOk result (IsInStep self.new) }
+    {
+        if self.begun {
+            return Err(Refusal::Bad(AsmKind::BadLine));
         }
         let Some(name) = Name::of(word) else {
-            return Err(Refusal::Bad);
+            unreachable!()
         };
-        let shape = Shape::Single;
-        let position = self.program.add_cells(Decl { name, shape, start })?;
-        self.names.insert(word, position)?;
+        let position = self.program.add_monitor(name)?;
+        self.monitors.insert(word, position)?;
         Ok(())
     }
 
     fn add_thread(&mut self) -> Result<(), Refusal>
         requires step { IsInStep self.old }
-        ensures added { Gives (λ _. self.new.program) result (next self.old.program ThreadLine) }
+        ensures refused { Refuses (refusal no_labels self.old.program ThreadLine) result }
+        ensures added { OnOk result (self.new.program ≡ added no_labels self.old.program ThreadLine) }
         ensures step { OnOk result (IsInStep self.new) }
     {
         self.program.add_thread()?;
@@ -94,37 +154,89 @@ impl<'a> Assembly<'a> {
         Ok(())
     }
 
+    // Adds an instruction to the thread that has begun.
     fn add_op(&mut self, op: Op) -> Result<(), Refusal>
         requires step { IsInStep self.old }
-        ensures added { Gives (λ _. self.new.program) result (with_op_behind self.old.program op) }
+        requires begun { has_thread self.old.program ≡ true }
+        ensures refused { Refuses (wrong_by false (nat_le 65536 (instruction_count self.old.program.threads))) result }
+        ensures added { OnOk result (self.new.program ≡ with_op self.old.program op) }
         ensures step { OnOk result (IsInStep self.new) }
     {
-        if !self.begun {
-            return Err(Refusal::Bad);
-        }
         self.program.add_op(op)?;
         Ok(())
     }
 
-    fn add_read(&mut self, name: &[u8]) -> Result<(), Refusal>
+    fn add_whole(&mut self, op: Option<Op>) -> Result<(), Refusal>
         requires step { IsInStep self.old }
-        ensures added { Gives (λ _. self.new.program) result (next self.old.program (ReadLine name.now)) }
+        ensures refused { Refuses (refusal no_labels self.old.program (WholeLine op)) result }
+        ensures added { OnOk result (self.new.program ≡ added no_labels self.old.program (WholeLine op)) }
         ensures step { OnOk result (IsInStep self.new) }
     {
-        let Some(position) = self.names.position(name) else {
-            return Err(Refusal::Bad);
+        if !self.begun {
+            return Err(Refusal::Bad(AsmKind::BadLine));
+        }
+        let Some(op) = op else {
+            return Err(Refusal::Bad(AsmKind::BadNumber));
         };
-        self.add_op(Op::Read(position))
+        self.add_op(op)
     }
 
-    fn add_write(&mut self, name: &[u8]) -> Result<(), Refusal>
+    // Adds the instruction of this kind that names what stands at the position, where its name has one.
+    fn add_naming(&mut self, kind: OpKind, position: Option<u32>) -> Result<(), Refusal>
         requires step { IsInStep self.old }
-        ensures added { Gives (λ _. self.new.program) result (next self.old.program (WriteLine name.now)) }
+        ensures refused { Refuses (wrong_naming self.old.program position) result }
+        ensures added { OnOk result (self.new.program ≡ with_op self.old.program (naming_op kind (unwrap_or position 0))) }
         ensures step { OnOk result (IsInStep self.new) }
     {
-        let Some(position) = self.names.position(name) else {
-            return Err(Refusal::Bad);
+        if !self.begun {
+            return Err(Refusal::Bad(AsmKind::BadLine));
+        }
+        let Some(at) = position else {
+            return Err(Refusal::Bad(AsmKind::UnknownName));
         };
-        self.add_op(Op::Write(position))
+        self.add_op(naming(kind, at))
+    }
+
+    // A label adds nothing to the program.
+    fn pass_label(&self, is_passed: bool) -> Result<(), Refusal>
+        requires { IsInStep self.now }
+        ensures { Refuses (wrong_label self.now.program is_passed) result }
+    {
+        if !self.begun {
+            return Err(Refusal::Bad(AsmKind::BadLine));
+        }
+        if is_passed {
+            return Err(Refusal::Bad(AsmKind::Twice));
+        }
+        Ok(())
+    }
+
+    /// Adds what the line says, where it sees these labels. After a refusal nothing more may be added.
+    pub(crate) fn add(&mut self, line: Line<'a>, labels: &ThreadLabels<'a>) -> Result<(), Refusal>
+        requires step { IsInStep self.old }
+        requires declared { IsWellDeclared (form line) }
+        ensures refused { Refuses (refusal (labels_seen labels.now) self.old.program (form line.entry)) result }
+        ensures added { OnOk result (self.new.program ≡ added (labels_seen labels.now) self.old.program (form line.entry)) }
+        ensures step { OnOk result (IsInStep self.new) }
+    {
+        match line {
+            Line::Blank => Ok(()),
+            Line::Var { name, start } => self.add_var(name, start),
+            Line::Array { name, size, start } => self.add_array(name, size, start),
+            Line::Monitor(name) => self.add_monitor(name),
+            Line::Thread => self.add_thread(),
+            Line::Label(name) => self.pass_label(labels.is_passed(name)),
+            Line::Whole(op) => self.add_whole(op),
+            Line::Jump(kind, name) => self.add_naming(kind, labels.place(name)),
+            Line::Access(kind, name) => {
+                let position = self.decls.position(name);
+                self.add_naming(kind, position)
+            }
+            Line::Turn(kind, name) => {
+                let position = self.monitors.position(name);
+                self.add_naming(kind, position)
+            }
+            Line::Malformed => Err(Refusal::Bad(AsmKind::BadLine)),
+        }
     }
 }

@@ -8,6 +8,8 @@ use stride_isa::{OpKind, op_named};
 #[derive(Clone, Copy, Debug, PartialEq, Eq)]
 pub(crate) enum Keyword {
     Var,
+    Array,
+    Monitor,
     Thread,
     Instruction(OpKind),
     Other,
@@ -19,6 +21,12 @@ pub(crate) fn keyword_at(word: &[u8]) -> Keyword
 {
     if word == b"var".as_slice() {
         return Keyword::Var;
+    }
+    if word == b"array".as_slice() {
+        return Keyword::Array;
+    }
+    if word == b"monitor".as_slice() {
+        return Keyword::Monitor;
     }
     if word == b"thread".as_slice() {
         return Keyword::Thread;

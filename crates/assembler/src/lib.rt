@@ -1,16 +1,17 @@
-//! Programs and orders, read from their text.
+//! Programs and orders, read from their text and printed.
 //!
-//! Owns what the lines and words of a text are (`Lines`, `Words`, `Numbers`), what a line says (`Forms`), which program
-//! a text spells (`Programs`), which order (`Orders`), and how an input holds both (`Splits`, `Inputs`).
-//! The layer above may rely on this: unless memory runs out, a text is read exactly where it spells something, and to
-//! what it spells; every other text is a bad line at line 0. A program that was read is straight, so it can be checked.
+//! Owns: what a text spells, from its lines and words (`Lines`, `Words`, `Numbers`) over what a line says by itself
+//! (`Forms`) and the labels of its thread (`Labels`) to a program or the first fault (`Programs`); orders (`Orders`),
+//! the split of an input (`Splits`), and the canonical text (`Canonical`).
+//! The layer above may rely on this: `assemble` gives the program that the text spells, or the least refused line with
+//! the first of its kinds.
 #![tactic(auto)]
 
 mod asm_error;
 mod assembling;
 mod assembly;
-mod inputs;
 mod keyword;
+mod laws;
 mod line;
 mod lines;
 mod names;
@@ -18,17 +19,22 @@ mod numbers;
 mod operands;
 mod order_split;
 mod orders;
+mod printing;
 mod refusal;
 mod splitting;
+mod targets;
+mod thread_labels;
 mod words;
 
 pub use asm_error::{AsmError, AsmKind};
 pub use assembling::assemble;
-pub use inputs::read_input;
-pub use lines::ends_with_line_feed;
+pub use laws::canonical_is_read_back;
 pub use order_split::OrderSplit;
 pub use orders::read_order;
+pub use printing::print_program;
 pub use splitting::split_order;
 
+#[cfg(test)]
+mod order_tests;
 #[cfg(test)]
 mod tests;

@@ -1,17 +1,6 @@
 //! The lines of a text.
 ghost use Rattle.std.specs.Prelude.{◌≡◌, ◌+◌, ◌-◌, ◌<◌, [], ◌∷◌, length, IfSome, IfNone};
-ghost use Rattle.assembler.specs.Lines.{lines, ends_lines};
-
-/// Whether each line of the text ends with a line feed. The empty text has no line.
-#[tactic(auto, using(crate::proofs::LineLemmas::ends_lines_last))]
-pub fn ends_with_line_feed(text: &[u8]) -> bool
-    ensures { result ≡ ends_lines text.now }
-{
-    match text.last() {
-        Some(byte) => *byte == b'\n',
-        None => true,
-    }
-}
+ghost use Rattle.assembler.specs.Lines.{lines};
 
 /// The first line without its line feed, and what follows it; `None` at the end of the text.
 #[tactic(auto, using(crate::proofs::LineLemmas::line_steps))]

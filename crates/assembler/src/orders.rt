@@ -1,76 +1,139 @@
 //! `read_order`: the order that a text spells.
-ghost use Rattle.std.specs.Prelude.{◌≡◌, ◌≤◌, [], ◌∷◌, length, OnOk};
-ghost use Rattle.assembler.specs.Answers.{Gives, IsAnswer};
-ghost use Rattle.assembler.specs.Orders.{order_limit, with_words, words_in, order_spelled};
+ghost use Rattle.std.specs.Prelude.{◌≡◌, ◌≤◌, ◌++◌, length, replicate, IfOk, IfSome, IfNone, OnOk, Some, None};
+ghost use Rattle.std.specs.Option.{option_map};
+ghost use Rattle.assembler.specs.Answers.{IsAnswer};
+ghost use Rattle.assembler.specs.Orders.{halves, order_limit, order_spelled, repeated_of, times_of};
+ghost use Rattle.assembler.specs.OrderReading.{line_words, with_word, with_words};
 ghost use Rattle.assembler.specs.Words.{words_of};
 
-use crate::asm_error::AsmError;
-use crate::lines::{ends_with_line_feed, take_line};
+use crate::asm_error::{AsmError, AsmKind};
+use crate::lines::take_line;
 use crate::numbers::number_up_to;
-use crate::refusal::Refusal;
-use crate::words::take_word;
+use crate::words::{before_comment, take_word};
 use std::alloc::Global;
-use stride_base::List;
+use stride_base::{List, NoMemory};
 
 /// The most members of an order.
 const ORDER_LIMIT: usize = 134_217_728;
 
-fn push_member(order: &mut List<u8>, word: &[u8]) -> Result<(), Refusal>
-    ensures added { Gives (λ _. order.new.items) result (with_words order.old.items (word.now ∷ [])) }
-    ensures within { OnOk result (length order.new.items ≤ order_limit) }
+/// A thread and how many times in a row it is named.
+#[derive(Clone, Copy)]
+struct Run {
+    thread: u8,
+    times: usize,
+}
+
+/// What stands before the first `*` of a word, and what stands behind it, if there is one.
+#[tactic(auto, using(crate::proofs::OrderLemmas::star_steps))]
+fn split_star(word: &[u8]) -> (&[u8], Option<&[u8]>)
+    ensures front { result.0.now ≡ (halves word.now).front }
+    ensures back { option_map (λ count. count.now) result.1 ≡ (halves word.now).back }
 {
-    let Some(member) = number_up_to(255, word) else {
-        return Err(Refusal::Bad);
+    for (i, byte) in word.iter().enumerate() {
+        if *byte == b'*' {
+            return (word.split_at(i).0, Some(word.split_at(i + 1).1));
+        }
+    }
+    (word, None)
+}
+
+/// How many times a word with this count names a thread.
+fn times_in(count: Option<&[u8]>) -> Option<usize>
+    ensures times { result ≡ times_of (option_map (λ c. c.now) count.entry) }
+    ensures few { IfSome result (λ times. times ≤ order_limit) }
+{
+    let Some(digits) = count else {
+        return Some(1);
     };
-    if order.len() >= ORDER_LIMIT {
-        return Err(Refusal::Bad);
+    let Some(times) = number_up_to(ORDER_LIMIT as u64, digits) else {
+        return None;
+    };
+    if times >= 1 {
+        Some(times as usize)
+    } else {
+        None
     }
-    order.push(member as u8)?;
+}
+
+/// What a word of an order says, `t` or `t*n`.
+fn run_of(word: &[u8]) -> Option<Run>
+    ensures run { IfSome result (λ run. repeated_of word.now ≡ Some (record { thread = run.thread; times = run.times })) }
+    ensures few { IfSome result (λ run. run.times ≤ order_limit) }
+    ensures none { IfNone result (repeated_of word.now ≡ None) }
+{
+    let (front, back) = split_star(word);
+    let Some(thread) = number_up_to(255, front) else {
+        return None;
+    };
+    let Some(times) = times_in(back) else {
+        return None;
+    };
+    Some(Run {
+        thread: thread as u8,
+        times,
+    })
+}
+
+// The room is asked for once, so that a long run costs no more than its bytes.
+fn push_run(order: &mut List<u8>, run: Run) -> Result<(), NoMemory>
+    ensures { OnOk result (order.new.items ≡ order.old.items ++ replicate run.times run.thread) }
+{
+    order.reserve(run.times)?;
+    for _ in 0..run.times {
+        order.push_spare(run.thread);
+    }
     Ok(())
 }
 
-#[tactic(auto, using(crate::proofs::OrderLemmas::word_steps))]
-fn push_line(order: &mut List<u8>, line: &[u8]) -> Result<(), Refusal>
-    requires { length order.old.items ≤ order_limit }
-    ensures added { Gives (λ _. order.new.items) result (with_words order.old.items (words_of line.now)) }
+fn push_word(order: &mut List<u8>, word: &[u8], line: u32) -> Result<(), AsmError>
+    ensures added { IsAnswer (λ _. order.new.items) result (with_word order.old.items (record { line = line; word = word.now })) }
     ensures within { OnOk result (length order.new.items ≤ order_limit) }
 {
-    let mut left = Some(line);
-    while let Some(words) = left {
-        let (word, rest) = take_word(words);
-        push_member(order, word)?;
-        left = rest;
+    let Some(run) = run_of(word) else {
+        return Err(AsmError::Bad {
+            kind: AsmKind::BadNumber,
+            line,
+        });
+    };
+    if order.len() + run.times > ORDER_LIMIT {
+        return Err(AsmError::Bad {
+            kind: AsmKind::TooMany,
+            line,
+        });
+    }
+    push_run(order, run)?;
+    Ok(())
+}
+
+fn push_line(order: &mut List<u8>, line: &[u8], number: u32) -> Result<(), AsmError>
+    requires { length order.old.items ≤ order_limit }
+    ensures added { IsAnswer (λ _. order.new.items) result (with_words order.old.items (line_words number (words_of line.now))) }
+    ensures within { OnOk result (length order.new.items ≤ order_limit) }
+{
+    let mut rest = before_comment(line);
+    while let Some((word, after)) = take_word(rest) {
+        push_word(order, word, number)?;
+        rest = after;
     }
     Ok(())
 }
 
-#[tactic(auto, using(crate::proofs::OrderLemmas::word_steps))]
-fn read_lines(alloc: Global, text: &[u8]) -> Result<List<u8>, Refusal>
-    ensures { Gives (λ order. order.items) result (with_words [] (words_in text.now)) }
+/// The order that the text spells, whose first line has this number, or its first word that is refused.
+#[tactic(auto, using(crate::proofs::OrderLemmas::line_steps))]
+pub fn read_order(alloc: Global, text: &[u8], first_line: u32) -> Result<List<u8>, AsmError>
+    requires short { length text.now ≤ 268435456 }
+    requires from_one { 1 ≤ first_line }
+    requires small { first_line ≤ 268435457 }
+    ensures spelled { IsAnswer (λ order. order.items) result (order_spelled first_line text.now) }
+    ensures within { IfOk result (λ order. length order.items ≤ order_limit) }
 {
     let mut order = List::new(alloc);
+    let mut number = first_line;
     let mut rest = text;
     while let Some((line, after)) = take_line(rest) {
-        push_line(&mut order, line)?;
+        push_line(&mut order, line, number)?;
+        number += 1;
         rest = after;
     }
     Ok(order)
-}
-
-/// The order that the text spells, as `read_order` gives it.
-pub(crate) fn order_of(alloc: Global, text: &[u8]) -> Result<List<u8>, Refusal>
-    ensures { Gives (λ order. order.items) result (order_spelled text.now) }
-{
-    if !ends_with_line_feed(text) {
-        return Err(Refusal::Bad);
-    }
-    read_lines(alloc, text)
-}
-
-/// The order that the text spells: lines of numbers below 256, divided by single spaces, each line ended by a line feed,
-/// at most 134,217,728 numbers together.
-pub fn read_order(alloc: Global, text: &[u8]) -> Result<List<u8>, AsmError>
-    ensures { IsAnswer (λ order. order.items) result (order_spelled text.now) }
-{
-    Ok(order_of(alloc, text)?)
 }

@@ -2,13 +2,19 @@
 use super::*;
 use std::alloc::{AllocError, Global};
 use std::fmt::Write;
+use std::process::Abort;
 use std::test::Fail;
-use stride_isa::{Checked, check};
+use stride_isa::{AddError, Name};
 
-const REFUSED: AsmError = AsmError::Bad {
-    kind: AsmKind::BadLine,
-    line: 0,
-};
+/// The refusal of a text, or `None` where it is read.
+fn refusal(rt: &impl Abort, alloc: Global, text: &[u8]) -> Option<AsmError> {
+    assert!(rt; text.len() <= 268_435_456);
+    assemble(alloc, text).err()
+}
+
+fn bad(kind: AsmKind, line: u32) -> Option<AsmError> {
+    Some(AsmError::Bad { kind, line })
+}
 
 /// A piece, then another this many times, then a third.
 fn repeated(
@@ -27,305 +33,224 @@ fn repeated(
     Ok(text)
 }
 
-/// This many declarations, of names that differ.
-fn declarations(alloc: Global, count: usize) -> Result<String, AllocError> {
+/// This many lines that declare names which differ, and a last line.
+fn declarations(alloc: Global, word: &str, count: usize, last: &str) -> Result<String, AllocError> {
     let mut text = String::new(alloc);
     for i in 0..count {
-        writeln!(text, "var v{i} {i}")?;
+        writeln!(text, "{word} v{i}")?;
     }
-    Ok(text)
-}
-
-/// The declarations with their starting values, and the code of each thread.
-fn told(alloc: Global, program: &Checked) -> Result<String, AllocError> {
-    let mut text = String::new(alloc);
-    for at in 0..program.decls() {
-        let decl = program.decl(at);
-        for byte in decl.name.as_slice() {
-            text.push(char::from(*byte))?;
-        }
-        let start = decl.start;
-        write!(text, "={start} ")?;
-    }
-    for thread in 0..program.threads() {
-        write!(text, "|")?;
-        for at in 0..program.code_len(thread) {
-            let op = program.op(thread, at);
-            write!(text, " {op:?}")?;
-        }
-    }
+    writeln!(text, "{last}")?;
     Ok(text)
 }
 
 #[test]
-fn texts_that_are_read(rt: HostRuntime) -> Result<(), Fail> {
-    let rows: [(&[u8], &str); 8] = [
-        (b"", ""),
-        (b"var x 0\n", "x=0 "),
-        (
-            b"var x 18446744073709551615\nvar _y2 007\n",
-            "x=18446744073709551615 _y2=7 ",
-        ),
-        (b"thread\nhalt\n", "| Halt"),
-        (
-            b"thread\npush 18446744073709551615\npush 1\nprint\nprint\nhalt\n",
-            "| Push(18446744073709551615) Push(1) Print Print Halt",
-        ),
-        (
-            b"var x 5\nthread\nread x\nprint\nhalt\nthread\npush 7\nwrite x\nhalt\n",
-            "x=5 | Read(0) Print Halt| Push(7) Write(0) Halt",
-        ),
-        (
-            b"var order 1\nvar thread 2\nvar var 3\nthread\nread thread\nwrite order\nread var\nhalt\n",
-            "order=1 thread=2 var=3 | Read(1) Write(0) Read(2) Halt",
-        ),
-        (
-            b"var abcdefghijklmnopqrstuvwxyz012345 0\n",
-            "abcdefghijklmnopqrstuvwxyz012345=0 ",
-        ),
-    ];
-    for (text, want) in rows {
-        let program = check(rt.alloc(), assemble(rt.alloc(), text)?)?;
-        assert_eq!(rt; told(rt.alloc(), &program)?.as_str(), want);
+fn a_text_is_read(rt: HostRuntime) -> Result<(), Fail> {
+    let text =
+        b"# sum\n  var total   05\narray a 2\nmonitor m\nthread\nagain:\n  read total  # look\njnz again\nhalt";
+    let mut program = assemble(rt.alloc(), text)?;
+    let taken: [&[u8]; 3] = [b"total", b"a", b"m"];
+    for word in taken {
+        let name = Name::of(word).ok_or("a name")?;
+        assert!(rt; program.add_monitor(name) == Err(AddError::Twice));
     }
+    assert!(rt; program.add_monitor(Name::of(b"again").ok_or("a name")?) == Ok(1));
+    assert!(rt; program.add_thread() == Ok(1));
     Ok(())
 }
 
 #[test]
-fn texts_that_are_refused(rt: HostRuntime) {
-    let rows: [(&[u8], &str); 42] = [
-        (b"\n", "an empty line"),
-        (b"var x 0\n\nthread\nhalt\n", "an empty line inside"),
-        (b"var x 0", "no last line feed"),
-        (b"thread\nhalt", "no last line feed behind a thread"),
-        (b"var x 0\r\n", "a carriage return"),
-        (b"var\tx 0\n", "a tab"),
-        (b"var  x 0\n", "two spaces"),
-        (b" var x 0\n", "a space first"),
-        (b"var x 0 \n", "a space last"),
-        (b"var x 0 # start\n", "a comment"),
-        (b"# start\n", "a line of comment"),
-        (b"var \xc3\xa4 0\n", "bytes above 127"),
-        (b"var x\n", "no starting value"),
-        (b"var\n", "no name"),
-        (b"var x 0 0\n", "a word too many"),
-        (b"var 1x 0\n", "a name that begins with a digit"),
+fn texts_that_are_read(rt: HostRuntime) {
+    let rows: [(&[u8], &str); 16] = [
+        (b"", "no line"),
+        (b"\n\n", "lines without words"),
+        (b"var x", "no last line feed"),
         (
-            b"var abcdefghijklmnopqrstuvwxyz0123456 0\n",
-            "a name of 33 bytes",
+            b"\tvar\tx\r\n\r\nthread\r\n halt \r\n",
+            "tabs and carriage returns",
         ),
-        (b"var x 18446744073709551616\n", "a number of 65 bits"),
         (
-            b"var x 99999999999999999999999999999999\n",
-            "a number far too large",
+            b"# \xff\x80 comment\nvar x#0\xfe\n#",
+            "comments of any bytes",
         ),
-        (b"var x +1\n", "a sign"),
-        (b"var x 1a\n", "a letter in a number"),
-        (b"var x 0\nvar x 1\n", "a name twice"),
-        (b"thread\nhalt\nvar x 0\n", "a declaration behind a thread"),
-        (b"array x 2\n", "an unknown word"),
-        (b"VAR x 0\n", "capital letters"),
-        (b"thread 0\nhalt\n", "a word behind thread"),
-        (b"halt\n", "an instruction outside a thread"),
         (
-            b"push 1\nthread\nhalt\n",
-            "an instruction before the first thread",
+            b"# order\nvar order # order\n",
+            "the line of an order in a comment",
         ),
-        (b"thread\n", "no halt"),
-        (b"thread\npush 1\n", "no halt behind an instruction"),
-        (b"thread\nthread\nhalt\n", "no halt before the next thread"),
-        (b"thread\nhalt\nhalt\n", "halt twice"),
-        (b"thread\nhalt\npush 1\nhalt\n", "halt in the middle"),
-        (b"thread\nhalt 0\n", "a word behind halt"),
-        (b"thread\npush\nhalt\n", "no number"),
-        (b"thread\npush 1 2\nhalt\n", "two numbers"),
         (
-            b"thread\npush 18446744073709551616\nhalt\n",
-            "a pushed number of 65 bits",
+            b"var x 18446744073709551615\narray a 255 18446744073709551615\nthread\npush 18446744073709551615\nget 0\nset 015\n",
+            "the largest numbers",
         ),
-        (b"thread\nread x\nprint\nhalt\n", "an unknown name"),
         (
-            b"var x 0\nthread\npush 1\nwrite X\nhalt\n",
-            "a name in other letters",
+            b"var a0123456789012345678901234567_90\n",
+            "a name of 32 bytes",
         ),
-        (b"thread\nprint\nhalt\n", "a stack that falls below 0"),
         (
-            b"var x 0\nthread\nread x\nwrite x\nwrite x\nhalt\n",
-            "a stack that falls below 0 later",
+            b"thread\njump end\nhalt\nend:\n",
+            "a label behind the last instruction",
         ),
-        (b"order\n", "a line that is none of a program"),
+        (
+            b"thread\na:\nhalt\nthread\na:\njump a\n",
+            "two labels alike in two threads",
+        ),
+        (
+            b"thread\nhalt:\njump halt\nthread:\njz thread\n",
+            "labels named like other words",
+        ),
+        (
+            b"var a\nthread\na:\njnz a\nread a\n",
+            "a label named like a variable",
+        ),
+        (
+            b"array a 2\nthread\nread a\nwrite a\n",
+            "an access to an array as a whole",
+        ),
+        (
+            b"var x\nthread\nreadat x\nwriteat x\n",
+            "an access to a variable as an array",
+        ),
+        (b"monitor m\nthread\nenter m\nexit m\nthread\n", "monitors"),
+        (
+            b"thread\ndup\ndrop\nswap\nover\nadd\nsub\nmul\ndiv\nrem\nand\nor\nxor\nshl\nshr\neq\nlt\nnot\nprint\nhalt\n",
+            "each instruction without an operand",
+        ),
     ];
     for (text, why) in rows {
-        assert!(rt; assemble(rt.alloc(), text).err() == Some(REFUSED), "{why}");
+        assert!(rt; refusal(&rt, rt.alloc(), text).is_none(), "{why}");
     }
 }
 
-fn is_read(rt: &HostRuntime, text: &[u8]) -> bool {
-    assemble(rt.alloc(), text).is_ok()
+#[test]
+fn lines_that_are_refused(rt: HostRuntime) {
+    let rows: [(&[u8], AsmKind, u32); 44] = [
+        (b"order\n", AsmKind::BadLine, 1),
+        (b"Var x\n", AsmKind::BadLine, 1),
+        (b"var\n", AsmKind::BadLine, 1),
+        (b"var x 0 0\n", AsmKind::BadLine, 1),
+        (b"var 1x\n", AsmKind::BadLine, 1),
+        (b"var x-y 1\n", AsmKind::BadLine, 1),
+        (
+            b"var a0123456789012345678901234567_901\n",
+            AsmKind::BadLine,
+            1,
+        ),
+        (b"array a\n", AsmKind::BadLine, 1),
+        (b"array a 1 0 0\n", AsmKind::BadLine, 1),
+        (b"array 2 2\n", AsmKind::BadLine, 1),
+        (b"monitor\n", AsmKind::BadLine, 1),
+        (b"monitor m 1\n", AsmKind::BadLine, 1),
+        (b"thread x\nhalt\n", AsmKind::BadLine, 1),
+        (b"halt\n", AsmKind::BadLine, 1),
+        (b"a:\n", AsmKind::BadLine, 1),
+        (b"jump nowhere\n", AsmKind::BadLine, 1),
+        (b"thread\nvar x\n", AsmKind::BadLine, 2),
+        (b"thread\narray a 0\n", AsmKind::BadLine, 2),
+        (b"thread\nmonitor m\n", AsmKind::BadLine, 2),
+        (b"thread\na: halt\n", AsmKind::BadLine, 2),
+        (b"thread\na :\n", AsmKind::BadLine, 2),
+        (b"thread\n:\n", AsmKind::BadLine, 2),
+        (b"thread\n1:\n", AsmKind::BadLine, 2),
+        (b"thread\nhalt 0\n", AsmKind::BadLine, 2),
+        (b"thread\npush\n", AsmKind::BadLine, 2),
+        (b"thread\npush 1 2\n", AsmKind::BadLine, 2),
+        (b"thread\njump\n", AsmKind::BadLine, 2),
+        (b"thread\nread 1\n", AsmKind::BadLine, 2),
+        (b"var x 18446744073709551616\n", AsmKind::BadNumber, 1),
+        (b"var x +1\n", AsmKind::BadNumber, 1),
+        (b"var x 1a\n", AsmKind::BadNumber, 1),
+        (b"array a 0\n", AsmKind::BadNumber, 1),
+        (b"array a 257\n", AsmKind::BadNumber, 1),
+        (b"array a 1 x\n", AsmKind::BadNumber, 1),
+        (
+            b"thread\npush 18446744073709551616\n",
+            AsmKind::BadNumber,
+            2,
+        ),
+        (b"thread\nget 16\n", AsmKind::BadNumber, 2),
+        (b"thread\nset x\n", AsmKind::BadNumber, 2),
+        (b"thread\njump a\nthread\na:\n", AsmKind::UnknownName, 2),
+        (b"monitor x\nthread\nread x\n", AsmKind::UnknownName, 3),
+        (b"var x\nthread\nenter x\n", AsmKind::UnknownName, 3),
+        (b"var x\nthread\njz x\n", AsmKind::UnknownName, 3),
+        (b"var x\narray x 1\n", AsmKind::Twice, 2),
+        (b"var x\nmonitor x\n", AsmKind::Twice, 2),
+        (b"thread\na:\nhalt\na: # again\n", AsmKind::Twice, 4),
+    ];
+    for (text, kind, line) in rows {
+        assert_eq!(rt; refusal(&rt, rt.alloc(), text), bad(kind, line));
+    }
+}
+
+#[test]
+fn the_first_fault_is_told(rt: HostRuntime) {
+    let rows: [(&[u8], AsmKind, u32); 10] = [
+        // Two kinds on one line.
+        (b"thread\nvar x 1a\n", AsmKind::BadLine, 2),
+        (b"var x\nvar x 1a\n", AsmKind::BadNumber, 2),
+        (b"var x\narray x 257\n", AsmKind::BadNumber, 2),
+        (b"array a 256\nvar a\n", AsmKind::Twice, 2),
+        // Kinds on two lines: the least line, whatever the order of the kinds.
+        (b"var x\nvar x\norder\n", AsmKind::Twice, 2),
+        (b"thread\njump nowhere\na:\na:\n", AsmKind::UnknownName, 2),
+        (b"thread\na:\na:\njump nowhere\n", AsmKind::Twice, 3),
+        (b"thread\njump end\nbad line\nend:\n", AsmKind::BadLine, 3),
+        (
+            b"thread\njump end\nbad line\nhalt\n",
+            AsmKind::UnknownName,
+            2,
+        ),
+        // The line begins no thread.
+        (b"thread\njump end\nthread x\nend:\n", AsmKind::BadLine, 3),
+    ];
+    for (text, kind, line) in rows {
+        assert_eq!(rt; refusal(&rt, rt.alloc(), text), bad(kind, line));
+    }
 }
 
 #[test]
 fn limits_of_a_text(rt: HostRuntime) -> Result<(), Fail> {
     let alloc = rt.alloc();
-    assert!(rt; is_read(&rt, &repeated(alloc, b"", b"thread\nhalt\n", 16, b"")?));
-    assert!(rt; !is_read(&rt, &repeated(alloc, b"", b"thread\nhalt\n", 17, b"")?));
-    assert!(rt; is_read(&rt, declarations(alloc, 256)?.as_bytes()));
-    assert!(rt; !is_read(&rt, declarations(alloc, 257)?.as_bytes()));
-    assert!(rt;
-        is_read(
-            &rt,
-            &repeated(alloc, b"thread\n", b"push 1\n", 64, b"halt\n")?
-        )
+    let threads = repeated(alloc, b"", b"thread\nhalt\n", 16, b"")?;
+    assert!(rt; refusal(&rt, rt.alloc(), &threads).is_none());
+    let threads = repeated(alloc, b"", b"thread\nhalt\n", 17, b"")?;
+    assert_eq!(rt;
+        refusal(&rt, rt.alloc(), &threads),
+        bad(AsmKind::TooMany, 33)
     );
-    assert!(rt;
-        !is_read(
-            &rt,
-            &repeated(alloc, b"thread\n", b"push 1\n", 65, b"halt\n")?
-        )
+    let pushes = repeated(alloc, b"thread\n", b"push 1\n", 65_536, b"")?;
+    assert!(rt; refusal(&rt, rt.alloc(), &pushes).is_none());
+    let pushes = repeated(alloc, b"thread\n", b"push 1\n", 65_536, b"a:\njump a\n")?;
+    assert_eq!(rt;
+        refusal(&rt, rt.alloc(), &pushes),
+        bad(AsmKind::TooMany, 65_539)
     );
-    assert!(rt;
-        is_read(
-            &rt,
-            &repeated(alloc, b"var x ", b"0", 300, b"18446744073709551615\n")?
-        )
-    );
-    assert!(rt;
-        !is_read(
-            &rt,
-            &repeated(alloc, b"var x ", b"0", 300, b"18446744073709551616\n")?
-        )
-    );
-    assert!(rt;
-        is_read(
-            &rt,
-            &repeated(
-                alloc,
-                b"thread\npush 1\n",
-                b"push 1\nprint\n",
-                32767,
-                b"halt\n"
-            )?
-        )
-    );
-    assert!(rt;
-        !is_read(
-            &rt,
-            &repeated(
-                alloc,
-                b"thread\npush 1\npush 1\n",
-                b"push 1\nprint\n",
-                32767,
-                b"halt\n"
-            )?
-        )
+    let zeros = repeated(alloc, b"var x ", b"0", 300, b"18446744073709551615\n")?;
+    assert!(rt; refusal(&rt, rt.alloc(), &zeros).is_none());
+    let zeros = repeated(alloc, b"var x ", b"0", 300, b"18446744073709551616\n")?;
+    assert_eq!(rt;
+        refusal(&rt, rt.alloc(), &zeros),
+        bad(AsmKind::BadNumber, 1)
     );
     Ok(())
 }
 
 #[test]
-fn splits(rt: HostRuntime) {
-    let rows: [(&[u8], usize, usize, u32); 10] = [
-        (b"", 0, 0, 1),
-        (b"thread\nhalt\n", 12, 12, 3),
-        (b"thread\nhalt", 11, 11, 3),
-        (b"order\n", 0, 6, 2),
-        (b"order\n0 1\n", 0, 6, 2),
-        (b"thread\nhalt\norder\n0 1\n", 12, 18, 4),
-        (b"thread\norder\n0\norder\n1\n", 7, 13, 3),
-        (b"thread\norder", 7, 12, 3),
-        (b"order 0\nan order\norders\n order\n", 31, 31, 5),
-        (b"\n\norder\n", 2, 8, 4),
+fn limits_of_declarations(rt: HostRuntime) -> Result<(), Fail> {
+    let rows: [(&str, usize, &str, bool); 6] = [
+        ("var", 255, "var last", true),
+        ("var", 256, "var last", false),
+        ("var", 55, "array a 201", true),
+        ("var", 56, "array a 201", false),
+        ("monitor", 63, "monitor last", true),
+        ("monitor", 64, "monitor last", false),
     ];
-    for (text, program_end, order_start, order_line) in rows {
-        assert!(rt; text.len() <= 100);
-        let want = OrderSplit {
-            program_end,
-            order_start,
-            order_line,
+    for (word, count, last, is_read) in rows {
+        let text = declarations(rt.alloc(), word, count, last)?;
+        let want = if is_read {
+            None
+        } else {
+            bad(AsmKind::TooMany, count as u32 + 1)
         };
-        assert_eq!(rt; split_order(text), want);
-    }
-}
-
-#[test]
-fn orders(rt: HostRuntime) -> Result<(), Fail> {
-    let rows: [(&[u8], &[u8]); 6] = [
-        (b"", &[]),
-        (b"0\n", &[0]),
-        (b"0 1 0 1\n", &[0, 1, 0, 1]),
-        (b"0 1\n2\n3 4 5\n", &[0, 1, 2, 3, 4, 5]),
-        (
-            b"255 007 00000000000000000000000000000255\n",
-            &[255, 7, 255],
-        ),
-        (b"16\n16\n", &[16, 16]),
-    ];
-    for (text, want) in rows {
-        assert_eq!(rt; read_order(rt.alloc(), text)?.as_slice(), want);
-    }
-    let refused: [&[u8]; 16] = [
-        b"\n",
-        b"0",
-        b"0\n1",
-        b"0\n\n1\n",
-        b"0  1\n",
-        b" 0\n",
-        b"0 \n",
-        b"0\t1\n",
-        b"0 1\r\n",
-        b"256\n",
-        b"0 1 256 0\n",
-        b"18446744073709551616\n",
-        b"0*2\n",
-        b"-1\n",
-        b"0 # one\n",
-        b"order\n",
-    ];
-    for text in refused {
-        assert!(rt; read_order(rt.alloc(), text).err() == Some(REFUSED));
+        assert_eq!(rt; refusal(&rt, rt.alloc(), text.as_bytes()), want);
     }
     Ok(())
-}
-
-#[test]
-fn inputs(rt: HostRuntime) -> Result<(), Fail> {
-    let rows: [(&[u8], &str, &[u8]); 5] = [
-        (b"", "", &[]),
-        (b"order\n", "", &[]),
-        (b"order\n2 1\n", "", &[2, 1]),
-        (b"thread\nhalt\n", "| Halt", &[]),
-        (
-            b"var x 0\nthread\nread x\nprint\nhalt\norder\n0 1\n1\n",
-            "x=0 | Read(0) Print Halt",
-            &[0, 1, 1],
-        ),
-    ];
-    for (bytes, want, want_order) in rows {
-        assert!(rt; bytes.len() <= 100);
-        let (program, order) = read_input(rt.alloc(), bytes)?;
-        let program = check(rt.alloc(), program)?;
-        assert_eq!(rt; told(rt.alloc(), &program)?.as_str(), want);
-        assert_eq!(rt; order.as_slice(), want_order);
-    }
-    let refused: [&[u8]; 6] = [
-        b"order",
-        b"thread\nhalt\norder",
-        b"thread\nhalt\norder\n0",
-        b"thread\nhalt\norder\norder\n",
-        b"thread\norder\n0\n",
-        b"thread\nhalt\norder\n\n",
-    ];
-    for bytes in refused {
-        assert!(rt; bytes.len() <= 100);
-        assert!(rt; read_input(rt.alloc(), bytes).err() == Some(REFUSED));
-    }
-    Ok(())
-}
-
-#[test]
-fn line_feeds_at_the_end(rt: HostRuntime) {
-    assert!(rt; ends_with_line_feed(b""));
-    assert!(rt; ends_with_line_feed(b"\n"));
-    assert!(rt; ends_with_line_feed(b"a\nb\n"));
-    assert!(rt; !ends_with_line_feed(b"a\nb"));
 }

@@ -1,5 +1,6 @@
 -- Lemmas on what always holds of a `ThreadRun`.
 use borrow.Author.Tests.{ltb-true}
+use Rattle.std.proofs.lemmas.Bool.{le-ltb, lt-ltb}
 use Rattle.std.proofs.Common.{cond, refl, append-nil, ◌≡◌, ℕ, ◌+◌, ◌<◌, ◌≤◌, List, [], Bool, true, false, Option, Some, None, nat_lt, unwrap_or, length, sym, ◌∙◌, ap, subst, arith}
 use Rattle.stride_base.specs.Listed.{Listed}
 use Rattle.stride_isa.specs.Instructions.{kind, popped}
@@ -31,6 +32,13 @@ is_run_at_start p thread fuel stack empty there inside some limit = record {
 chosen_none : (b : Bool) (x : End) → cond b None (Some x) ≡ None → b ≡ true
 chosen_none true x e = refl
 chosen_none false x e = cc
+
+-- the end of a thread that has used up its fuel, and of one that has not
+pub spent : (fuel made : ℕ) → fuel ≤ made → Some OutOfSteps ≡ out_of_steps fuel made
+spent fuel made all = let e = le-ltb made fuel all in rw e refl
+
+pub unspent : (fuel made : ℕ) (ended : Option End) → ended ≡ None → made < fuel → ended ≡ out_of_steps fuel made
+unspent fuel made ended none some = let e = lt-ltb made fuel some in rw e none
 
 -- a thread that is not out of steps has fuel left
 pub fuel_left : (fuel made : ℕ) → out_of_steps fuel made ≡ None → made < fuel

@@ -35,9 +35,6 @@ fn two_threads(alloc: Global, first: &[Op], second: &[Op]) -> Result<Checked, Fa
     program.add_cells(variable(b"x", 0).ok_or("a name")?)?;
     add_thread(&mut program, first)?;
     add_thread(&mut program, second)?;
-    if !program.is_straight() {
-        return Err("not straight")?;
-    }
     let checked = check(alloc, program)?;
     if checked.threads() != 2 {
         return Err("not two threads")?;

@@ -102,7 +102,9 @@ impl<'p> ThreadRun<'p> {
             Next::Goes(pc) => {
                 self.pc = pc;
                 self.made += 1;
-                self.ended = out_of_steps(self.made, self.fuel);
+                if self.made >= self.fuel {
+                    self.ended = Some(End::OutOfSteps);
+                }
             }
             Next::Ends(end) => {
                 self.made += 1;

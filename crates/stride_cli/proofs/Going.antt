@@ -3,7 +3,7 @@ use Rattle.std.proofs.Common.{◌≡◌, ℕ, ◌+◌, ◌-◌, ◌*◌, ◌≤�
 use Rattle.stride_base.specs.Listed.{Listed}
 use Rattle.stride_isa.specs.Listing.{Listing}
 use Rattle.sc_machine.specs.declared.stop.Stop.{Stop}
-use Rattle.sc_machine.specs.ThreadStep.{Thread, Stands, now, settled, answered, start_thread}
+use Rattle.sc_machine.specs.ThreadStep.{Thread, Stands, now, settled, answered}
 use Rattle.sc_machine.specs.ThreadRun.{Run, SameThread, IsAnswered, NamesCell, state}
 use Rattle.sc_machine.specs.Schedule.{settled_lines}
 use Rattle.sc_machine.specs.Transcript.{tag, tagged, line_bytes, transcript_bytes}

@@ -1,5 +1,5 @@
 -- Labels of printed lines.
-use Rattle.std.proofs.Common.{◌≡◌, ℕ, ◌==◌, ◌++◌, ◌∷◌, [], Bool, true, List, if◌then◌else◌, refl, ap, sym, ◌∙◌}
+use Rattle.std.proofs.Common.{◌≡◌, ℕ, ◌==◌, ◌++◌, ◌∷◌, [], Bool, List, if◌then◌else◌, refl, ap}
 use Rattle.sc_machine.specs.Transcript.{tag, tagged}
 use Rattle.stride_cli.specs.Playing.{labelled}
 

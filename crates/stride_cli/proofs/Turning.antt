@@ -1,7 +1,7 @@
 -- A turn at the table is a turn of the machine that it shows.
-use Rattle.std.proofs.Common.{◌≡◌, ◌≢◌, ℕ, ◌+◌, ◌-◌, ◌<◌, ◌≤◌, ◌∙◌, ◌++◌, ◌⊎◌, inl, inr, Bool, true, false, if◌then◌else◌, List, length, map, refl, sym, ap, subst, arith, get_or, set, Vec, slice_index, Option, Some, None}
+use Rattle.std.proofs.Common.{◌≡◌, ◌≢◌, ℕ, ◌<◌, ◌≤◌, ◌∙◌, ◌++◌, inl, inr, true, if◌then◌else◌, List, length, map, refl, sym, ap, subst, arith, get_or, set, slice_index, Option, Some, None}
 use Rattle.std.specs.Vec.{with_item}
-use Rattle.std.specs.List.{slice_get, slice_index_or, slice_set}
+use Rattle.std.specs.List.{slice_get, slice_index_or}
 use Rattle.std.proofs.lemmas.Option.{get_or_from_slice_get, slice_get_within}
 use Rattle.std.proofs.lemmas.Bool.Decides.{eqb_tells}
 use Rattle.std.proofs.lemmas.List.{get_or-map, get_or-set_same, get_or-set_other, length-set, length-map, map-set}
@@ -9,7 +9,7 @@ use Rattle.stride_base.specs.Listed.{Listed}
 use Rattle.stride_isa.specs.Listing.{Listing, cell_count}
 use Rattle.sc_machine.specs.declared.stop.Stop.{Stop}
 use Rattle.sc_machine.specs.declared.stop.Stop.TheVariants.{Read, Write, Enter, Exit, Ended}
-use Rattle.sc_machine.specs.ThreadStep.{Thread, Stands, start_thread, now, settled, answered}
+use Rattle.sc_machine.specs.ThreadStep.{Stands, start_thread, now, settled, answered}
 use Rattle.sc_machine.specs.ThreadRun.{NamesCell}
 use Rattle.sc_machine.specs.Machine.{Machine, thread_at, may_pass, can, is_free_for, put, word_read, cells_after, holders_after}
 use Rattle.sc_machine.specs.Schedule.{settled_lines, turn, turned}

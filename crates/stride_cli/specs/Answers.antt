@@ -1,20 +1,26 @@
 -- What the program answers to words and bytes: the exit status with its details, and the report.
-use Rattle.std.specs.Prelude.{◌≡◌, ℕ, List, [], ◌∷◌, length, nat_lt, Option, Some, None, Result, Ok, Err, if◌then◌else◌, unwrap_or}
+use Rattle.std.specs.Prelude.{◌≡◌, ℕ, List, [], length, take, drop, nat_lt, Option, Some, None, Result, Ok, Err, unwrap_or}
+use Rattle.std.specs.Bool.{MatchBool}
+use Rattle.stride_base.specs.Devices.{Adds, AddsFront}
+use Rattle.stride_base.specs.Listed.{Listed}
+use Rattle.stride_isa.specs.Faults.{Fault, IsVerdict}
 use Rattle.stride_isa.specs.Listing.{Listing}
 use Rattle.sc_machine.specs.Machine.{Machine}
 use Rattle.sc_machine.specs.Schedule.{refused_place, replayed}
-use Rattle.assembler.specs.Inputs.{input_of}
-use Rattle.assembler.specs.declared.asm_error.AsmKind.TheVariants.{BadLine}
+use Rattle.interleavings.specs.Recording.{Recording, Setting, driven, stranger}
+use Rattle.assembler.specs.Canonical.{canonical}
+use Rattle.assembler.specs.Orders.{order_spelled}
+use Rattle.assembler.specs.Programs.{LineFault, spelled}
+use Rattle.assembler.specs.Splits.{split}
 use Rattle.stride_cli.specs.declared.command.Command.{Command}
-use Rattle.stride_cli.specs.declared.command.Command.TheVariants.{Follow}
+use Rattle.stride_cli.specs.declared.command.Command.TheVariants.{Check, Follow, Sim}
 use Rattle.stride_cli.specs.declared.status.Status.{Status}
 use Rattle.stride_cli.specs.declared.status.Status.TheVariants.{Done, Usage, ReadFault, TooLong, Program, NotEnabled, WriteFault, NoMemory}
-use Rattle.stride_cli.specs.declared.status.ProgramFault.TheVariants.{Text}
-use Rattle.stride_base.specs.Listed.{Listed}
+use Rattle.stride_cli.specs.declared.status.ProgramFault.TheVariants.{Text, Code}
 use Rattle.stride_cli.specs.declared.refusal.Refusal.{Refusal}
 use Rattle.stride_cli.specs.declared.refusal.Refusal.TheVariants as refusals
 use Rattle.stride_cli.specs.Commands.{command_named}
-use Rattle.stride_cli.specs.Reports.{follow_report}
+use Rattle.stride_cli.specs.Reports.{follow_report, logs_section}
 
 -- how a command ends, and what it puts
 pub record Answer : Type 0 where
@@ -24,6 +30,10 @@ pub record Answer : Type 0 where
 -- how many instructions each thread may make
 abbrev pub fuel : ℕ
 fuel = 100000
+
+-- after how many odd looks in a row a thread gives up
+abbrev pub patience : ℕ
+patience = 100000
 
 -- the most bytes of an input
 abbrev pub input_limit : ℕ
@@ -49,29 +59,100 @@ abbrev pub played : Option Machine → Option ℕ → Answer
 played (Some m) place = record { status = Done; report = follow_report m }
 played None place = refused (NotEnabled (unwrap_or place 0))
 
--- what `follow` answers to an input that was read
-abbrev pub followed : Option (Listing × List ℕ) → Answer
-followed None = refused (Program (Text BadLine 0))
-followed (Some input) = played (replayed input.0 fuel input.1) (refused_place input.0 fuel input.1)
+-- a refusal of a text or of an order, for its first fault
+abbrev pub refused_text : LineFault → Answer
+refused_text fault = refused (Program (Text fault.kind fault.line))
 
--- what a command answers to an input within the limit
-abbrev pub commanded : Command → List ℕ → Answer
-commanded Follow bytes = followed (input_of bytes)
+-- a refusal of a program, for its first fault
+abbrev pub refused_code : Fault → Answer
+refused_code fault = refused (Program (Code fault.kind fault.thread fault.instruction))
 
--- what the words and the bytes of the input are answered
-abbrev pub answer_by : Option Command → List ℕ → Answer
-answer_by None bytes = refused Usage
-answer_by (Some command) bytes = if nat_lt input_limit (length bytes) then refused TooLong else commanded command bytes
+-- a command that is done, with its report
+abbrev pub done : List ℕ → Answer
+done report = record { status = Done; report = report }
 
-abbrev pub answer : List (List ℕ) → List ℕ → Answer
-answer words bytes = answer_by (command_named words) bytes
+-- the bytes before the line `order`
+abbrev pub program_part : List ℕ → List ℕ
+program_part bytes = take (split bytes).program_end bytes
 
--- what is told of an answer's status: the very status, where it is no fault of a device and memory sufficed
-abbrev pub HasStatus : Status → Status → Type 0
-HasStatus ReadFault wanted = Unit {0}
-HasStatus WriteFault wanted = Unit {0}
-HasStatus NoMemory wanted = Unit {0}
-HasStatus given wanted = given ≡ wanted
+-- the bytes behind the line `order`
+abbrev pub order_part : List ℕ → List ℕ
+order_part bytes = drop (split bytes).order_start bytes
+
+-- the bytes of a command's input that are the text of a program
+abbrev pub text_of : Command → List ℕ → List ℕ
+text_of Check bytes = bytes
+text_of Follow bytes = program_part bytes
+text_of Sim bytes = program_part bytes
+
+-- what `follow` answers to an accepted program with an order
+abbrev pub followed : Listing → List ℕ → Answer
+followed p order = played (replayed p fuel order) (refused_place p fuel order)
+
+-- how a program is recorded
+abbrev pub setting_of : Listing → Setting
+setting_of p = record { program = p; fuel = fuel; patience = patience }
+
+-- a recording is reported; an order that names a thread which is not there is refused at the place of its first such member
+abbrev pub recorded : Option ℕ → Recording → Answer
+recorded None recording = done (logs_section recording.logs)
+recorded (Some place) recording = refused (NotEnabled place)
+
+-- what `sim` answers to an accepted program with an order
+abbrev pub simulated : Listing → List ℕ → Answer
+simulated p order = recorded (stranger (length p.threads) order) (driven (setting_of p) order)
+
+-- an answer to an order, where it is spelled, or the refusal of its first fault
+abbrev pub with_order : (List ℕ → Answer) → Result (List ℕ) LineFault → Answer
+with_order answer (Err fault) = refused_text fault
+with_order answer (Ok order) = answer order
+
+-- what the order of an input spells
+abbrev pub order_of : List ℕ → Result (List ℕ) LineFault
+order_of bytes = order_spelled (split bytes).order_line (order_part bytes)
+
+-- what a command answers to an accepted program and its whole input
+abbrev pub accepted : Command → List ℕ → Listing → Answer
+accepted Check bytes p = done (canonical p)
+accepted Follow bytes p = with_order (followed p) (order_of bytes)
+accepted Sim bytes p = with_order (simulated p) (order_of bytes)
+
+-- what a command answers to a program, by the verdict on it: its first fault, or none
+abbrev pub judged : Command → List ℕ → Listing → Option Fault → Answer
+judged command bytes p (Some fault) = refused_code fault
+judged command bytes p None = accepted command bytes p
+
+-- the answer of a command, by what the text of its program spells
+abbrev pub AnswersText : Command → List ℕ → Result Listing LineFault → Answer → Type 0
+AnswersText command bytes (Err fault) answer = answer ≡ refused_text fault
+AnswersText command bytes (Ok p) answer = (verdict : Option Fault) × (IsVerdict p verdict × (answer ≡ judged command bytes p verdict))
+
+-- the answer of a command to an input within the limit
+abbrev pub AnswersInput : Command → List ℕ → Answer → Type 0
+AnswersInput command bytes answer = AnswersText command bytes (spelled (text_of command bytes)) answer
+
+-- the answer of the command that the words name, if they name one, to an input of any length
+abbrev pub AnswersBy : Option Command → List ℕ → Answer → Type 0
+AnswersBy None bytes answer = answer ≡ refused Usage
+AnswersBy (Some command) bytes answer = MatchBool (nat_lt input_limit (length bytes)) (answer ≡ refused TooLong) (AnswersInput command bytes answer)
+
+-- the answer to the words and the bytes of the input
+abbrev pub IsAnswer : List (List ℕ) → List ℕ → Answer → Type 0
+IsAnswer words bytes answer = AnswersBy (command_named words) bytes answer
+
+-- the report of the answer, and what became of it
+abbrev pub Reported : List (List ℕ) → List ℕ → (List ℕ → Type 0) → Type 0
+Reported words bytes Put = (report : List ℕ) × (IsAnswer words bytes (done report) × Put report)
+
+-- what a status tells of the answer, where the sink told first these bytes and then those: the answer is this very status;
+-- where it is done, its whole report was put, and where that failed, a front of the report. A fault of reading and want of
+-- memory tell nothing
+abbrev pub Tells : List (List ℕ) → List ℕ → Option (List ℕ) → Option (List ℕ) → Status → Type 0
+Tells words bytes old new ReadFault = Unit {0}
+Tells words bytes old new NoMemory = Unit {0}
+Tells words bytes old new Done = Reported words bytes (Adds old new)
+Tells words bytes old new WriteFault = Reported words bytes (AddsFront old new)
+Tells words bytes old new status = IsAnswer words bytes (refused status)
 
 -- a fact where the whole report was put
 abbrev pub OnDone : Status → Type 0 → Type 0
@@ -100,8 +181,12 @@ status_of (refusals.Program fault) = Program fault
 status_of (refusals.NotEnabled place) = NotEnabled place
 status_of refusals.NoMemory = NoMemory
 
--- what a command that has read its input comes to: the report of the answer, or its refusal; want of memory says nothing
-abbrev pub Gives : Result (Listed ℕ) Refusal → Answer → Type 0
-Gives (Ok report) answer = (answer.status ≡ Done) × (answer.report ≡ report.items)
-Gives (Err refusals.NoMemory) answer = Unit {0}
-Gives (Err refusal) answer = answer ≡ refused (status_of refusal)
+-- the refusal is the command's answer; want of memory says nothing
+abbrev pub Refuses : Command → List ℕ → Refusal → Type 0
+Refuses command bytes refusals.NoMemory = Unit {0}
+Refuses command bytes refusal = AnswersInput command bytes (refused (status_of refusal))
+
+-- what a command that has read its input comes to: the report of the answer, or its refusal
+abbrev pub Gives : Result (Listed ℕ) Refusal → Command → List ℕ → Type 0
+Gives (Ok report) command bytes = AnswersInput command bytes (done report.items)
+Gives (Err refusal) command bytes = Refuses command bytes refusal

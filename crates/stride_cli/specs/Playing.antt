@@ -1,14 +1,13 @@
 -- The machine of `follow` beside the sequentially consistent machine that it shows. Only private clauses cite this module.
 use Rattle.std.specs.Prelude.{◌≡◌, ℕ, ◌-◌, ◌*◌, ◌<◌, ◌≤◌, ◌++◌, ◌==◌, ◌∷◌, [], if◌then◌else◌, Bool, true, false, List, length, map, slice_index, slice_set, Option, Some, None, Result, Ok, Err}
 use Rattle.std.specs.List.{range_with_len, slice_index_or}
-use Rattle.stride_base.specs.Listed.{Listed}
 use Rattle.stride_isa.specs.Listing.{Listing, cell_count}
 use Rattle.sc_machine.specs.declared.stop.Stop.{Stop}
 use Rattle.sc_machine.specs.declared.stop.Stop.TheVariants.{Read, Write, Enter, Exit, Ended}
 use Rattle.sc_machine.specs.ThreadStep.{Thread, Stands, start_thread, now, settled, answered}
-use Rattle.sc_machine.specs.ThreadRun.{SameThread, NamesCell, state}
-use Rattle.sc_machine.specs.Machine.{Machine, can, is_free_for}
-use Rattle.sc_machine.specs.Schedule.{settled_lines, turn, turns, ready, run_of, refused_place}
+use Rattle.sc_machine.specs.ThreadRun.{NamesCell, state}
+use Rattle.sc_machine.specs.Machine.{Machine, is_free_for}
+use Rattle.sc_machine.specs.Schedule.{settled_lines, turns, ready, run_of, refused_place}
 use Rattle.sc_machine.specs.Transcript.{tag, transcript_bytes}
 use Rattle.stride_cli.specs.declared.player.Player.{Player}
 use Rattle.stride_cli.specs.declared.playing.PlayError.{PlayError}

@@ -1,18 +1,32 @@
 -- How the refusals of the layers below are told.
+use Rattle.stride_isa.specs.declared.check_error.CheckError.{CheckError}
+use Rattle.stride_isa.specs.declared.check_error.CheckError.TheVariants as checks
 use Rattle.assembler.specs.declared.asm_error.AsmError.{AsmError}
 use Rattle.assembler.specs.declared.asm_error.AsmError.TheVariants as texts
+use Rattle.interleavings.specs.declared.driven.DriveError.{DriveError}
+use Rattle.interleavings.specs.declared.driven.DriveError.TheVariants as drives
 use Rattle.stride_cli.specs.declared.playing.PlayError.{PlayError}
 use Rattle.stride_cli.specs.declared.playing.PlayError.TheVariants as plays
 use Rattle.stride_cli.specs.declared.refusal.Refusal.{Refusal}
 use Rattle.stride_cli.specs.declared.refusal.Refusal.TheVariants.{Program, NotEnabled, NoMemory}
-use Rattle.stride_cli.specs.declared.status.ProgramFault.TheVariants.{Text}
+use Rattle.stride_cli.specs.declared.status.ProgramFault.TheVariants.{Text, Code}
 
--- a refused text
+-- a refused text or order
 abbrev pub of_text : AsmError → Refusal
 of_text (texts.Bad kind line) = Program (Text kind line)
 of_text texts.NoMemory = NoMemory
+
+-- a refused program
+abbrev pub of_check : CheckError → Refusal
+of_check (checks.Bad kind thread instruction) = Program (Code kind thread instruction)
+of_check checks.NoMemory = NoMemory
 
 -- a refused schedule
 abbrev pub of_play : PlayError → Refusal
 of_play (plays.NotEnabled place) = NotEnabled place
 of_play plays.NoMemory = NoMemory
+
+-- a refused order of atomic steps
+abbrev pub of_drive : DriveError → Refusal
+of_drive (drives.NoSuchThread place) = NotEnabled place
+of_drive drives.NoMemory = NoMemory

@@ -1,5 +1,7 @@
 -- The sections of reports, each a function of one value.
 use Rattle.std.specs.Prelude.{ℕ, ◌+◌, List, [], ◌∷◌, ◌++◌, codes, decimal}
+use Rattle.interleavings.specs.declared.event.LogEntry.{LogEntry}
+use Rattle.interleavings.specs.declared.event.LogEntry.TheVariants.{Read, Write, Enter}
 use Rattle.sc_machine.specs.declared.end.End.{End}
 use Rattle.sc_machine.specs.declared.end.End.TheVariants.{Halted, Trapped, OutOfSteps, Stopped}
 use Rattle.sc_machine.specs.declared.trap.Trap.{Trap}
@@ -39,3 +41,23 @@ ends_section all = codes "ends" ++ (10 ∷ end_lines 0 all)
 -- the report of `follow` on a machine at the end of its run
 abbrev pub follow_report : Machine → List ℕ
 follow_report m = transcript_section m.transcript ++ ends_section (ends m)
+
+-- the words for an entry of a log
+abbrev pub entry_words : LogEntry → List ℕ
+entry_words (Read value bound) = codes "read " ++ (decimal value ++ (32 ∷ decimal bound))
+entry_words (Write number) = codes "write " ++ decimal number
+entry_words (Enter turn) = codes "enter " ++ decimal turn
+
+-- a line for each entry of the thread's log
+abbrev pub log_lines : ℕ → List LogEntry → List ℕ
+log_lines thread [] = []
+log_lines thread (entry ∷ entries) = (decimal thread ++ (32 ∷ (entry_words entry ++ 10 ∷ []))) ++ log_lines thread entries
+
+-- the lines of all logs, with the threads' numbers from this one on
+abbrev pub logs_lines : ℕ → List (List LogEntry) → List ℕ
+logs_lines thread [] = []
+logs_lines thread (log ∷ logs) = log_lines thread log ++ logs_lines (thread + 1) logs
+
+-- the section `logs`: what each thread logged, in order of number
+abbrev pub logs_section : List (List LogEntry) → List ℕ
+logs_section logs = codes "logs" ++ (10 ∷ logs_lines 0 logs)

@@ -5,17 +5,22 @@ ghost use Rattle.stride_cli.specs.Commands.{command_named, command_with_name};
 /// What the program can be told to do.
 #[derive(Clone, Copy, Debug, PartialEq, Eq)]
 pub enum Command {
+    /// Checks a program, and prints its canonical text.
+    Check,
     /// Plays a schedule on the sequentially consistent machine.
     Follow,
+    /// Records a program by an order of atomic steps, on one thread.
+    Sim,
 }
 
 fn command_called(name: &str) -> Option<Command>
     ensures { result ≡ command_with_name name.now }
 {
-    if name == "follow" {
-        Some(Command::Follow)
-    } else {
-        None
+    match name {
+        "check" => Some(Command::Check),
+        "follow" => Some(Command::Follow),
+        "sim" => Some(Command::Sim),
+        _ => None,
     }
 }
 

@@ -1,12 +1,14 @@
 //! The top call for all commands that start no thread.
 ghost use Rattle.std.specs.Prelude.{◌≡◌, ◌≤◌, ◌↔◌, [], None, Some, IfSome, map, length};
-ghost use Rattle.stride_base.specs.Devices.{Adds, AddsFront, Rose};
-ghost use Rattle.stride_cli.specs.Answers.{answer, commanded, Gives, HasStatus, OnDone, OnReadFault, OnWriteFault, OnRefusal};
+ghost use Rattle.stride_base.specs.Devices.{Rose};
+ghost use Rattle.stride_cli.specs.Answers.{Gives, Tells, OnDone, OnReadFault, OnWriteFault, OnRefusal};
 ghost use Rattle.stride_cli.specs.Commands.{command_named};
 
+use crate::checking::check_text;
 use crate::command::{Command, command_of};
 use crate::following::follow;
 use crate::refusal::Refusal;
+use crate::simulating::sim;
 use crate::status::Status;
 use std::alloc::Global;
 use std::sync::ledger::Ledger;
@@ -18,10 +20,12 @@ const INPUT_LIMIT: usize = 268_435_456;
 /// The report of a command on an input that was read.
 fn report_of(alloc: Global, command: Command, bytes: &[u8]) -> Result<List<u8>, Refusal>
     requires { length bytes.now ≤ 268435456 }
-    ensures { Gives result (commanded command bytes.now) }
+    ensures { Gives result command bytes.now }
 {
     match command {
+        Command::Check => check_text(alloc, bytes),
         Command::Follow => follow(alloc, bytes),
+        Command::Sim => sim(alloc, bytes),
     }
 }
 
@@ -36,14 +40,12 @@ pub fn offline<S: Source, K: Sink, L: Ledger>(
     sink: &mut K,
     steps: &mut Steps<L>,
 ) -> Status
-    // The status with its details, but for a device's fault and want of memory.
-    ensures status { IfSome (S.left source.old) (λ bytes. HasStatus result (answer (map (λ word. word.now) words.entry.now) bytes).status) }
+    // The very answer, but for a device's fault and want of memory: the status with its details, and the report, whole where
+    // the command is done, or a front of it where it could not be put.
+    ensures answer { IfSome (S.left source.old) (λ bytes. Tells (map (λ word. word.now) words.entry.now) bytes (K.held sink.old) (K.held sink.new) result) }
     ensures usage { (result ≡ Status.Usage) ↔ (command_named (map (λ word. word.now) words.entry.now) ≡ None) }
     ensures unread { result ≡ Status.Usage → source.new ≡ source.old }
 
-    // The report: whole where the command is done, a front of it where it could not be put, and nothing otherwise.
-    ensures report { OnDone result (IfSome (S.left source.old) (λ bytes. Adds (K.held sink.old) (K.held sink.new) (answer (map (λ word. word.now) words.entry.now) bytes).report)) }
-    ensures front { OnWriteFault result (IfSome (S.left source.old) (λ bytes. AddsFront (K.held sink.old) (K.held sink.new) (answer (map (λ word. word.now) words.entry.now) bytes).report)) }
     ensures untouched { OnRefusal result (sink.new ≡ sink.old) }
     ensures end { OnDone result (IfSome (S.left source.new) (λ rest. rest ≡ [])) }
 

@@ -4,15 +4,16 @@ ghost use Rattle.std.specs.Prelude.{◌≡◌};
 use crate::playing::PlayError;
 use crate::status::{ProgramFault, Status};
 use assembler::AsmError;
+use interleavings::DriveError;
 use stride_base::NoMemory;
 use stride_isa::CheckError;
 
 /// Why a command that has read its input made no report.
 #[derive(Debug, Drop)]
 pub enum Refusal {
-    /// The input is no program with an order.
+    /// The program or the order is refused.
     Program { fault: ProgramFault },
-    /// The member of the order at this place can take no turn.
+    /// The member of the order at this place can take no turn, or names no thread.
     NotEnabled { place: u32 },
     /// Memory ran out.
     NoMemory,
@@ -51,12 +52,23 @@ impl From<AsmError> for Refusal {
 
 impl From<CheckError> for Refusal {
     ghost use Rattle.std.specs.Prelude.{◌≡◌};
-    ghost use Rattle.stride_cli.specs.declared.refusal.Refusal.TheVariants as refusals;
+    ghost use Rattle.stride_cli.specs.Refusals.{of_check};
 
-    ghost from_gives = { λ _ refusal. refusal ≡ refusals.NoMemory };
+    ghost from_gives = { λ error refusal. refusal ≡ of_check error };
 
     fn from(error: CheckError) -> Refusal {
         match error {
+            CheckError::Bad {
+                kind,
+                thread,
+                instruction,
+            } => Refusal::Program {
+                fault: ProgramFault::Code {
+                    kind,
+                    thread,
+                    instruction,
+                },
+            },
             CheckError::NoMemory => Refusal::NoMemory,
         }
     }
@@ -72,6 +84,20 @@ impl From<PlayError> for Refusal {
         match error {
             PlayError::NotEnabled { place } => Refusal::NotEnabled { place },
             PlayError::NoMemory => Refusal::NoMemory,
+        }
+    }
+}
+
+impl From<DriveError> for Refusal {
+    ghost use Rattle.std.specs.Prelude.{◌≡◌};
+    ghost use Rattle.stride_cli.specs.Refusals.{of_drive};
+
+    ghost from_gives = { λ error refusal. refusal ≡ of_drive error };
+
+    fn from(error: DriveError) -> Refusal {
+        match error {
+            DriveError::NoSuchThread { place } => Refusal::NotEnabled { place },
+            DriveError::NoMemory => Refusal::NoMemory,
         }
     }
 }

@@ -1,8 +1,9 @@
 //! The sections of reports.
-ghost use Rattle.std.specs.Prelude.{◌≡◌, ◌+◌, ◌≤◌, ◌<◌, ◌++◌, ◌∷◌, [], OnOk, IfOk, length, codes, decimal, true};
+ghost use Rattle.std.specs.Prelude.{◌≡◌, ◌+◌, ◌≤◌, ◌<◌, ◌++◌, ◌∷◌, [], OnOk, IfOk, length, codes, decimal, map, true};
 ghost use Rattle.stride_cli.specs.Playing.{labelled};
-ghost use Rattle.stride_cli.specs.Reports.{trap_word, end_words, end_lines, ends_section};
+ghost use Rattle.stride_cli.specs.Reports.{trap_word, end_words, end_lines, ends_section, entry_words, log_lines, logs_section};
 
+use interleavings::LogEntry;
 use sc_machine::{End, Trap};
 use std::alloc::Global;
 use stride_base::{List, NoMemory};
@@ -78,6 +79,79 @@ pub fn put_labelled(report: &mut List<u8>, label: &[u8], printed: &[u8]) -> Resu
         }
         report.push(*byte)?;
         begins = *byte == b'\n';
+    }
+    Ok(())
+}
+
+/// Appends a number of 64 bits in decimal.
+fn put_word(alloc: Global, report: &mut List<u8>, word: u64) -> Result<(), NoMemory>
+    ensures { OnOk result (report.new.items ≡ report.old.items ++ decimal word) }
+{
+    let digits = word.to_string(alloc)?;
+    report.push_all(digits.as_bytes())
+}
+
+fn put_entry(alloc: Global, report: &mut List<u8>, entry: LogEntry) -> Result<(), NoMemory>
+    ensures { OnOk result (report.new.items ≡ report.old.items ++ entry_words entry) }
+{
+    match entry {
+        LogEntry::Read { value, bound } => {
+            report.push_all(b"read ")?;
+            put_word(alloc, report, value)?;
+            report.push(b' ')?;
+            put_number(alloc, report, bound)
+        }
+        LogEntry::Write { number } => {
+            report.push_all(b"write ")?;
+            put_number(alloc, report, number)
+        }
+        LogEntry::Enter { turn } => {
+            report.push_all(b"enter ")?;
+            put_number(alloc, report, turn)
+        }
+    }
+}
+
+fn put_entry_line(
+    alloc: Global,
+    report: &mut List<u8>,
+    thread: u32,
+    entry: LogEntry,
+) -> Result<(), NoMemory>
+    ensures { OnOk result (report.new.items ≡ report.old.items ++ (decimal thread ++ (32 ∷ (entry_words entry ++ 10 ∷ [])))) }
+{
+    put_number(alloc, report, thread)?;
+    report.push(b' ')?;
+    put_entry(alloc, report, entry)?;
+    report.push(b'\n')
+}
+
+fn put_log(
+    alloc: Global,
+    report: &mut List<u8>,
+    thread: u32,
+    log: &[LogEntry],
+) -> Result<(), NoMemory>
+    ensures { OnOk result (report.new.items ≡ report.old.items ++ log_lines thread log.now) }
+{
+    for entry in log {
+        put_entry_line(alloc, report, thread, *entry)?;
+    }
+    Ok(())
+}
+
+/// Appends the section of the threads' logs.
+pub fn put_logs(
+    alloc: Global,
+    report: &mut List<u8>,
+    logs: &[List<LogEntry>],
+) -> Result<(), NoMemory>
+    requires { length logs.now ≤ 16 }
+    ensures { OnOk result (report.new.items ≡ report.old.items ++ logs_section (map (λ log. log.items) logs.now)) }
+{
+    report.push_all(b"logs\n")?;
+    for (thread, log) in logs.iter().enumerate() {
+        put_log(alloc, report, thread as u32, log.as_slice())?;
     }
     Ok(())
 }

@@ -3,14 +3,46 @@ ghost use Rattle.std.specs.Prelude.{◌≡◌};
 
 use assembler::AsmKind;
 use std::fmt;
+use stride_isa::CheckKind;
 use thiserror::Error;
 
-/// Why a program was refused.
+/// Why a program or an order was refused.
 #[derive(Debug, Drop, Error)]
 pub enum ProgramFault {
-    /// The text is refused at this line, counted from 1; line 0 stands for the text as a whole.
-    #[error("the text is not a program with an order")]
-    Text { kind: AsmKind, line: u32 },
+    /// The text or the order is refused for its first fault, on this line of the input, counted from 1.
+    #[error("line {line}: {words}", words = words_of_text(.kind))]
+    Text {
+        kind: AsmKind,
+        line: u32,
+    },
+    /// The program is refused for its first fault: of this thread, at this position of its code, both counted from 0.
+    #[error("thread {thread}, instruction {instruction}: {words}", words = words_of_check(.kind))]
+    Code {
+        kind: CheckKind,
+        thread: u32,
+        instruction: u32,
+    },
+}
+
+fn words_of_text(kind: &AsmKind) -> &'static str {
+    match kind {
+        AsmKind::BadLine => "not a line that can stand here",
+        AsmKind::BadNumber => "not a number that can stand here",
+        AsmKind::UnknownName => "unknown name",
+        AsmKind::Twice => "name already in use",
+        AsmKind::TooMany => "one more than the limit",
+    }
+}
+
+fn words_of_check(kind: &CheckKind) -> &'static str {
+    match kind {
+        CheckKind::Underflow => "reached with too few words on the stack",
+        CheckKind::Overflow => "puts more than 64 words on the stack",
+        CheckKind::TwoDepths => "reached with two stack depths",
+        CheckKind::RunsOff => "the thread runs off the end of its code",
+        CheckKind::BadTarget => "jumps outside the thread's code",
+        CheckKind::BadName => "names nothing of the kind that it uses",
+    }
 }
 
 /// How a command ends. `code` gives the exit status of the process.
@@ -24,9 +56,9 @@ pub enum Status {
     ReadFault,
     /// The input has more than 268,435,456 bytes.
     TooLong,
-    /// The input is no program with an order.
+    /// The program or the order is refused.
     Program { fault: ProgramFault },
-    /// The thread that the order names at this place, counted from 0, cannot take a turn.
+    /// The thread that the order names at this place, counted from 0, is not there, or cannot take a turn.
     NotEnabled { place: u32 },
     /// The report could not be written.
     WriteFault,
@@ -58,7 +90,7 @@ impl fmt::Display for Status {
     fn fmt<W: fmt::Write>(&self, f: &mut fmt::Formatter<W>) -> fmt::Result {
         match self {
             Status::Done => write!(f, "done"),
-            Status::Usage => write!(f, "usage: stride follow < PROGRAM-WITH-ORDER"),
+            Status::Usage => write!(f, "usage: stride check|follow|sim < INPUT"),
             Status::ReadFault => write!(f, "the input could not be read"),
             Status::TooLong => write!(f, "the input has more than 268435456 bytes"),
             Status::Program { fault } => write!(f, "{fault}"),

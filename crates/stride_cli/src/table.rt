@@ -50,7 +50,7 @@ impl<'p> Table<'p> {
         ensures table { OnOk result (IsTable self.new × SameGame self.old self.new) }
         ensures taken { (m : Machine) → Shows self.old m → IfOk result (λ taken. MatchBool taken
             ((can self.old.program.now thread m ≡ true) × Shows self.new (turn self.old.program.now self.old.fuel thread m))
-            (can self.old.program.now thread m ≡ false)) }
+            ((can self.old.program.now thread m ≡ false) × Shows self.new m)) }
     {
         let Some(player) = self.players.get_mut(thread as usize) else {
             return Ok(false);

@@ -13,7 +13,9 @@ use Rattle.stride_isa.specs.declared.decl.Shape.{Shape}
 use Rattle.stride_isa.specs.declared.op.Op.{Op}
 use Rattle.stride_isa.specs.declared.decl.Shape.TheVariants.{Single, Array}
 use Rattle.stride_isa.specs.Listing.{Listing, empty, is_taken, names_of, cells_of, cell_count, first_cell, instruction_count, push_last, with_decl, with_monitor, with_thread, with_op}
-use Rattle.stride_isa.specs.Kept.{HasSize, IsKept}
+use Rattle.stride_isa.specs.Kept.{IsKept}
+use Rattle.stride_isa.specs.Names.{is_name}
+use Rattle.stride_isa.specs.WellFormed.{HasSize, IsDeclaration, PushesWord, IsWellFormed}
 
 -- neither of two tests passes
 or_false : (a b : Bool) → (a || b) ≡ false → (a ≡ false) × (b ≡ false)
@@ -68,9 +70,9 @@ all_push P [] x h p = (p, tt)
 all_push P (y ∷ xs) x h p = (h.0, all_push P xs x h.1 p)
 
 -- each declaration has a cell at least
-pub length_le_cells : (decls : List Decl) → AllByRecursion (λ (d : Decl). HasSize d.shape) decls → length decls ≤ cell_count decls
+pub length_le_cells : (decls : List Decl) → AllByRecursion IsDeclaration decls → length decls ≤ cell_count decls
 length_le_cells [] h = omega arith
-length_le_cells (d ∷ ds) h = omega (arith, length_le_cells ds h.1, one_cell d.shape h.0, sum_by-cons (λ (d : Decl). cells_of d.shape) d ds)
+length_le_cells (d ∷ ds) h = omega (arith, length_le_cells ds h.1, one_cell d.shape h.0.size, sum_by-cons (λ (d : Decl). cells_of d.shape) d ds)
   where
     one_cell : (s : Shape) → HasSize s → 1 ≤ cells_of s
     one_cell Single h = omega arith
@@ -99,25 +101,42 @@ push_last_set f (a ∷ []) (suc i) d v x h e = absurd (omega arith)
 push_last_set f (a ∷ b ∷ vs) zero d v x h e = absurd (omega arith)
 push_last_set f (a ∷ b ∷ vs) (suc i) d v x h e = ap (λ c. f a ∷ c) (push_last_set f (b ∷ vs) i d v x (omega arith) e)
 
-pub kept_empty : IsKept empty [] 0 0
+-- one more instruction, whose word fits, behind instructions whose words fit
+words_last : (codes : List (List Op)) (op : Op) → AllByRecursion (λ code. AllByRecursion PushesWord code) codes → PushesWord op → AllByRecursion (λ code. AllByRecursion PushesWord code) (push_last codes op)
+words_last [] op h p = h
+words_last (code ∷ []) op h p = (all_push PushesWord code op h.0 p, tt)
+words_last (code ∷ next ∷ rest) op h p = (h.0, words_last (next ∷ rest) op h.1 p)
+
+formed_empty : IsWellFormed empty
 unfolding IsDistinct
-kept_empty = record {
+formed_empty = record {
   limits = record { cells = omega arith; monitors = omega arith; threads = omega arith; instructions = omega arith };
   distinct = tt;
-  sizes = tt;
+  decls = tt;
+  monitors = tt;
+  words = tt;
+}
+
+pub kept_empty : IsKept empty [] 0 0
+kept_empty = record {
+  formed = formed_empty;
   cells = refl;
   instructions = refl;
   long = refl;
   firsts_at = λ at h. absurd (omega arith);
 }
 
-pub kept_decl : (p : Listing) (firsts : List ℕ) (c n : ℕ) (d : Decl) → IsKept p firsts c n → HasSize d.shape → is_taken p d.name ≡ false → c + cells_of d.shape ≤ 256 → IsKept (with_decl p d) (firsts ++ c ∷ []) (c + cells_of d.shape) n
-kept_decl p firsts c n d h size free fits =
+pub kept_decl : (p : Listing) (firsts : List ℕ) (c n : ℕ) (d : Decl) → IsKept p firsts c n → IsDeclaration d → is_taken p d.name ≡ false → c + cells_of d.shape ≤ 256 → IsKept (with_decl p d) (firsts ++ c ∷ []) (c + cells_of d.shape) n
+kept_decl p firsts c n d h is free fits =
     let count : cell_count (p.decls ++ d ∷ []) ≡ cell_count p.decls + cells_of d.shape = sum_by_push (λ (d : Decl). cells_of d.shape) p.decls d in
     record {
-      limits = record { cells = omega (arith, count, h.cells); monitors = h.limits.monitors; threads = h.limits.threads; instructions = h.limits.instructions };
-      distinct = distinct_decl p d free h.distinct;
-      sizes = all_push (λ (d : Decl). HasSize d.shape) p.decls d h.sizes size;
+      formed = record {
+        limits = record { cells = omega (arith, count, h.cells); monitors = h.formed.limits.monitors; threads = h.formed.limits.threads; instructions = h.formed.limits.instructions };
+        distinct = distinct_decl p d free h.formed.distinct;
+        decls = all_push IsDeclaration p.decls d h.formed.decls is;
+        monitors = h.formed.monitors;
+        words = h.formed.words;
+      };
       cells = omega (arith, count, h.cells);
       instructions = h.instructions;
       long = omega (arith, length-append firsts (c ∷ []), length-append p.decls (d ∷ []), h.long);
@@ -133,11 +152,15 @@ kept_decl p firsts c n d h size free fits =
           ap (slice_index (firsts ++ c ∷ [])) there ∙ get_or-append_seam firsts c [] 0 ∙ h.cells ∙ ap cell_count (sym (take-append_seam p.decls (d ∷ []))) ∙ ap (first_cell (p.decls ++ d ∷ [])) (sym same)
     ]
 
-pub kept_monitor : (p : Listing) (firsts : List ℕ) (c n : ℕ) (name : List ℕ) → IsKept p firsts c n → is_taken p name ≡ false → length p.monitors < 64 → IsKept (with_monitor p name) firsts c n
-kept_monitor p firsts c n name h free fits = record {
-  limits = record { cells = h.limits.cells; monitors = omega (arith, length-append p.monitors (name ∷ [])); threads = h.limits.threads; instructions = h.limits.instructions };
-  distinct = distinct_monitor p name free h.distinct;
-  sizes = h.sizes;
+pub kept_monitor : (p : Listing) (firsts : List ℕ) (c n : ℕ) (name : List ℕ) → IsKept p firsts c n → is_name name ≡ true → is_taken p name ≡ false → length p.monitors < 64 → IsKept (with_monitor p name) firsts c n
+kept_monitor p firsts c n name h is free fits = record {
+  formed = record {
+    limits = record { cells = h.formed.limits.cells; monitors = omega (arith, length-append p.monitors (name ∷ [])); threads = h.formed.limits.threads; instructions = h.formed.limits.instructions };
+    distinct = distinct_monitor p name free h.formed.distinct;
+    decls = h.formed.decls;
+    monitors = all_push (λ name. is_name name ≡ true) p.monitors name h.formed.monitors is;
+    words = h.formed.words;
+  };
   cells = h.cells;
   instructions = h.instructions;
   long = h.long;
@@ -148,22 +171,30 @@ pub kept_thread : (p : Listing) (firsts : List ℕ) (c n : ℕ) → IsKept p fir
 kept_thread p firsts c n h fits =
     let count = instructions_push p.threads ([] ∷ []) in
     record {
-      limits = record { cells = h.limits.cells; monitors = h.limits.monitors; threads = omega (arith, length-append p.threads ([] ∷ [])); instructions = omega (arith, count, h.limits.instructions) };
-      distinct = h.distinct;
-      sizes = h.sizes;
+      formed = record {
+        limits = record { cells = h.formed.limits.cells; monitors = h.formed.limits.monitors; threads = omega (arith, length-append p.threads ([] ∷ [])); instructions = omega (arith, count, h.formed.limits.instructions) };
+        distinct = h.formed.distinct;
+        decls = h.formed.decls;
+        monitors = h.formed.monitors;
+        words = all_push (λ code. AllByRecursion PushesWord code) p.threads [] h.formed.words tt;
+      };
       cells = h.cells;
       instructions = omega (arith, count, h.instructions);
       long = h.long;
       firsts_at = h.firsts_at;
     }
 
-pub kept_op : (p : Listing) (firsts : List ℕ) (c n : ℕ) (op : Op) → IsKept p firsts c n → 0 < length p.threads → n < 65536 → IsKept (with_op p op) firsts c (n + 1)
-kept_op p firsts c n op h some fits =
+pub kept_op : (p : Listing) (firsts : List ℕ) (c n : ℕ) (op : Op) → IsKept p firsts c n → 0 < length p.threads → PushesWord op → n < 65536 → IsKept (with_op p op) firsts c (n + 1)
+kept_op p firsts c n op h some word fits =
     let count = instructions_last p.threads op some in
     record {
-      limits = record { cells = h.limits.cells; monitors = h.limits.monitors; threads = omega (arith, length_last p.threads op, h.limits.threads); instructions = omega (arith, count, h.instructions) };
-      distinct = h.distinct;
-      sizes = h.sizes;
+      formed = record {
+        limits = record { cells = h.formed.limits.cells; monitors = h.formed.limits.monitors; threads = omega (arith, length_last p.threads op, h.formed.limits.threads); instructions = omega (arith, count, h.instructions) };
+        distinct = h.formed.distinct;
+        decls = h.formed.decls;
+        monitors = h.formed.monitors;
+        words = words_last p.threads op h.formed.words word;
+      };
       cells = h.cells;
       instructions = omega (arith, count, h.instructions);
       long = h.long;

@@ -1,3 +1,5 @@
+pub mod FaultLemmas
 pub mod KeptLemmas
-pub mod StraightLemmas
+pub mod MarksLemmas
+pub mod StrayingLemmas
 pub mod TableLemmas

@@ -1,6 +1,11 @@
+pub mod Faults
 pub mod Instructions
 pub mod Kept
+pub mod Laws
 pub mod Listing
+pub mod Marks
 pub mod Names
-pub mod Straight
+pub mod Steps
+pub mod Telling
 pub mod Validity
+pub mod WellFormed

@@ -44,6 +44,13 @@ Names p (Enter monitor) = monitor < length p.monitors
 Names p (Exit monitor) = monitor < length p.monitors
 Names p op = Unit {0}
 
+-- where a jump leads is a position of the thread's code
+abbrev pub TargetsInside : Listing → ℕ → Op → Type 0
+TargetsInside p thread (Jump target) = target < length (code_of p thread)
+TargetsInside p thread (Jz target) = target < length (code_of p thread)
+TargetsInside p thread (Jnz target) = target < length (code_of p thread)
+TargetsInside p thread op = Unit {0}
+
 -- the pairs of position and depth that a thread reaches: the least set that holds the start and, with each pair
 -- that has its operands and room for its results, the pairs after it inside the code
 pub data Reaches (p : Listing) (thread : ℕ) : ℕ → ℕ → Type 0 where
@@ -58,7 +65,11 @@ pub record IsFine (p : Listing) (thread at depth : ℕ) : Type 0 where
   pub inside : (next : ℕ) → Leads (op_at p thread at) at next → next < length (code_of p thread)
   pub names : Names p (op_at p thread at)
 
--- each thread has code, and each pair that it reaches is fine
+-- each thread has code, each instruction names what is there and jumps inside the code, each pair that a thread reaches is
+-- fine, and no position is reached with two depths
 pub record IsValid (p : Listing) : Type 0 where
   pub code : (thread : ℕ) → thread < length p.threads → 0 < length (code_of p thread)
+  pub names : (thread at : ℕ) → thread < length p.threads → at < length (code_of p thread) → Names p (op_at p thread at)
+  pub targets : (thread at : ℕ) → thread < length p.threads → at < length (code_of p thread) → TargetsInside p thread (op_at p thread at)
   pub fine : (thread at depth : ℕ) → thread < length p.threads → Reaches p thread at depth → IsFine p thread at depth
+  pub one_depth : (thread at depth other : ℕ) → thread < length p.threads → Reaches p thread at depth → Reaches p thread at other → depth ≡ other

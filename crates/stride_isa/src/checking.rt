@@ -1,23 +1,20 @@
 //! The check of a program, and checked programs.
-ghost use Rattle.std.specs.Prelude.{◌≡◌, ◌≤◌, ◌<◌, ◌+◌, ℕ, IfOk, true, length, slice_index};
+ghost use Rattle.std.specs.Prelude.{◌≡◌, ◌≤◌, ◌<◌, ◌+◌, ℕ, IfOk, IfErr, length, slice_index};
 ghost use Rattle.std.specs.List.{slice_index_or};
 ghost use Rattle.stride_isa.specs.Listing.{cell_count, cells_of, first_cell, start_of, code_of, op_at, decl_at};
-ghost use Rattle.stride_isa.specs.Straight.{is_straight as goes_straight};
+ghost use Rattle.stride_isa.specs.Faults.{IsRefusal};
 ghost use Rattle.stride_isa.specs.Validity.{IsFine, IsValid, Reaches};
+ghost use Rattle.stride_isa.specs.WellFormed.{IsWellFormed};
 
+use crate::check_error::CheckError;
 use crate::decl::Decl;
 use crate::name::Name;
+use crate::naming::check_names;
 use crate::op::Op;
 use crate::program::Program;
+use crate::straying::check_depths;
 use std::alloc::Global;
 use std::marker::Model;
-
-/// Why a program was not checked.
-#[derive(Clone, Copy, Debug, PartialEq, Eq)]
-pub enum CheckError {
-    /// Memory ran out.
-    NoMemory,
-}
 
 /// A valid program: no thread of it can meet a missing operand, a full stack, a position outside its code, or a name
 /// that is not declared. Only `check` makes one.
@@ -37,15 +34,26 @@ impl Model for Checked {
     ghost invariant = { λ c. IsValid c.program };
 }
 
-/// The same program, checked. The program is given up where memory runs out.
+/// The same program, checked, or its first fault. A refused program is given up.
 pub fn check(alloc: Global, program: Program) -> Result<Checked, CheckError>
-    requires { goes_straight program ≡ true }
-    ensures { IfOk result (λ checked. checked ≡ program) }
+    ensures checked { IfOk result (λ checked. checked ≡ program) }
+    ensures valid { IfOk result (λ _. IsValid program) }
+    ensures refused { IfErr result (IsRefusal program) }
 {
+    check_names(&program)?;
+    check_depths(alloc, &program)?;
     Ok(Checked { program })
 }
 
 impl Checked {
+    /// What holds of every checked program; the call does nothing.
+    pub fn is_sound(&self)
+        ensures formed { IsWellFormed self.now }
+        ensures valid { IsValid self.now }
+    {
+        self.program.is_well_formed();
+    }
+
     /// How many threads there are.
     pub fn threads(&self) -> u32
         ensures count { result ≡ length self.now.threads }

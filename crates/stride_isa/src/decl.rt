@@ -1,5 +1,6 @@
 //! Declarations of shared variables and arrays.
 ghost use Rattle.std.specs.Prelude.{◌≡◌};
+ghost use Rattle.stride_isa.specs.WellFormed.{HasSize, IsDeclaration};
 
 use crate::name::Name;
 
@@ -30,4 +31,13 @@ pub struct Decl {
     pub name: Name,
     pub shape: Shape,
     pub start: u64,
+}
+
+/// What holds of every declaration with a size that it may have; the call does nothing.
+pub(crate) fn is_declaration(decl: &Decl)
+    requires { HasSize decl.now.shape }
+    ensures { IsDeclaration decl.now }
+{
+    let _name = decl.name.as_slice();
+    let _start = decl.start;
 }

@@ -1,26 +1,41 @@
 //! Instructions, programs and the check of a program.
 //!
-//! Owns: the table of instructions (`Instructions`), programs as contracts see them (`Listing`), validity as the
-//! least set of reachable pairs of position and depth (`Validity`), and the operand stack.
+//! Owns: the table of instructions (`Instructions`), programs as contracts see them (`Listing`), validity as the least set
+//! of reachable pairs of position and depth (`Validity`), the first fault of a program (`Faults`), and the operand stack.
 //! The layer above may rely on this: a `Checked` program is valid, so no run of it meets a missing operand, a full
-//! stack, a position outside its code or a name that is not declared.
+//! stack, a position outside its code or a name that is not declared; and a program is refused for its first fault, of
+//! which there is one (`Laws`).
 #![tactic(auto)]
 
+mod check_error;
 mod checking;
 mod decl;
+mod depths;
+mod laws;
 mod looking;
 mod name;
+mod naming;
 mod op;
+mod pair;
 mod program;
+mod reaching;
+mod spot;
 mod stack;
-mod straight;
+mod straying;
+mod successors;
 
-pub use checking::{CheckError, Checked, check};
+pub use check_error::{CheckError, CheckKind};
+pub use checking::{Checked, check};
 pub use decl::{Decl, Shape};
+pub use laws::{one_first_fault, one_verdict, valid_has_no_fault};
 pub use name::Name;
 pub use op::{Op, OpKind, effect, kind_of, name_of, op_named};
 pub use program::{AddError, Program};
 pub use stack::Stack;
 
+#[cfg(test)]
+mod check_tests;
+#[cfg(test)]
+mod plain_check;
 #[cfg(test)]
 mod tests;

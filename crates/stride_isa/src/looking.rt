@@ -2,6 +2,7 @@
 ghost use Rattle.std.specs.Prelude.{◌≡◌, ◌≤◌, ◌<◌, ◌+◌, length, slice_index};
 ghost use Rattle.std.specs.List.{slice_index_or};
 ghost use Rattle.stride_isa.specs.Listing.{cell_count, cells_of, first_cell, start_of, starts_of, code_of, op_at, decl_at};
+ghost use Rattle.stride_isa.specs.WellFormed.{IsWellFormed};
 
 use crate::decl::Decl;
 use crate::name::Name;
@@ -27,6 +28,13 @@ fn start_in(decls: &[Decl], cell: u32) -> u64
 
 /// Looking at a program; `Checked` offers these to callers.
 impl Program {
+    /// What holds of every program; the call does nothing.
+    pub(crate) fn is_well_formed(&self)
+        ensures { IsWellFormed self.now }
+    {
+        let _ = &self.decls;
+    }
+
     /// How many threads there are.
     pub(crate) fn threads(&self) -> u32
         ensures count { result ≡ length self.now.threads }

@@ -3,10 +3,10 @@ ghost use Rattle.std.specs.Prelude.{◌≡◌, ◌==◌, ◌||◌, ◌<◌, ◌�
 ghost use Rattle.std.specs.List.{list_any};
 ghost use Rattle.std.specs.Str.{bytes_eq};
 ghost use Rattle.stride_isa.specs.Listing.{empty, is_taken, cell_count, cells_of, first_cell, start_of, instruction_count, code_of, op_at, decl_at, with_decl, with_monitor, with_thread, with_op, push_last, RefusesBy};
-ghost use Rattle.stride_isa.specs.Kept.{HasSize};
+ghost use Rattle.stride_isa.specs.WellFormed.{HasSize, PushesWord};
 ghost use Rattle.stride_isa.specs.declared.program.AddError.TheVariants.{NoMemory};
 
-use crate::decl::{Decl, Shape};
+use crate::decl::{Decl, Shape, is_declaration};
 use crate::name::Name;
 use crate::op::Op;
 use std::alloc::{AllocError, AllocFailed, Global};
@@ -64,6 +64,15 @@ fn is_named(decls: &[Decl], monitors: &[Name], name: &[u8]) -> bool
     ensures { result ≡ (list_any (λ d. bytes_eq d.name name.now) decls.now || list_any (λ monitor. bytes_eq monitor name.now) monitors.now) }
 {
     declares(decls, name) || names_monitor(monitors, name)
+}
+
+// What holds of every instruction; the call does nothing.
+fn pushes_word(op: Op)
+    ensures { PushesWord op }
+{
+    if let Op::Push(word) = op {
+        let _word = word;
+    }
 }
 
 fn push_to_last(threads: &mut Vec<Vec<Op>>, op: Op) -> Result<(), AllocError>
@@ -125,6 +134,7 @@ impl Program {
         if is_named(&self.decls, &self.monitors, decl.name.as_slice()) {
             return Err(AddError::Twice);
         }
+        is_declaration(&decl);
         let size = decl.shape.cells();
         if size > CELL_LIMIT - self.cells {
             return Err(AddError::TooMany);
@@ -182,6 +192,7 @@ impl Program {
         if self.instructions >= INSTRUCTION_LIMIT {
             return Err(AddError::TooMany);
         }
+        pushes_word(op);
         push_to_last(&mut self.threads, op)?;
         self.instructions += 1;
         Ok(())

@@ -1,163 +1,136 @@
 //! Rows of `follow`.
-ghost use Rattle.std.specs.Prelude.{◌≡◌, ◌<◌, ◌≤◌};
 
-use std::alloc::Global;
-use std::marker::Brand;
-use std::process::Abort;
-use std::sync::Wait;
-use std::sync::ledger::{Blank, Ledger};
+use crate::rows::{Ending, Row, Run, plain_run, play_all};
+use assembler::AsmKind;
 use std::test::Fail;
-use std::thread::Threads;
-use stride_base::{MemSink, MemSource, Steps};
-use stride_cli::{Status, offline};
 
 /// Two threads: one writes 3 into a variable, the other reads and prints it.
 const PUBLISH: &[u8] = b"var x 0\nthread\npush 3\nwrite x\nhalt\nthread\nread x\nprint\nhalt\n";
 
-/// A whole command over devices in memory, with what is wanted of it.
-#[derive(Drop)]
-struct Row<'a> {
-    words: &'a [&'a str],
-    text: &'a [u8],
-    order: &'a [u8],
-    failing_reads: &'a [u32],
-    failing_puts: &'a [u32],
-    status: u8,
-    held: &'a [u8],
-}
+/// Two threads that take one monitor.
+const GUARDED: &[u8] = b"monitor m\nthread\nenter m\nexit m\nhalt\nthread\nenter m\nexit m\nhalt\n";
 
-fn joined(alloc: Global, text: &[u8], order: &[u8]) -> Result<Vec<u8>, Fail> {
-    let mut input = Vec::new(alloc);
-    input.extend_from_slice(text)?;
-    input.extend_from_slice(order)?;
-    Ok(input)
-}
+/// One thread for each trap of an access or a monitor, the last two behind a turn.
+const TRAPS: &[u8] =
+    b"array a 2\nmonitor m\nmonitor n\nthread\npush 2\nreadat a\nprint\nhalt\nthread\nenter m\nenter m\nhalt\nthread\nexit m\nhalt\nthread\nenter n\nhalt\n";
 
-fn play<L: Ledger, R: Threads + Wait + Sync + Abort>(
-    rt: &R,
-    alloc: Global,
-    row: &Row<'_>,
-    blank: Blank,
-) -> Result<(), Fail>
-    requires name { blank.name ≡ L.name }
-    requires parts { blank.parts ≡ L.parts }
-    requires some_part { 0 < blank.parts }
-{
-    let mut steps = Steps::<L>::new(rt, blank);
-    let input = joined(alloc, row.text, row.order)?;
-    let mut source = MemSource::new(alloc, &input, row.failing_reads)?;
-    let mut sink = MemSink::new(alloc, 4, 100, row.failing_puts)?;
-    let status = offline(alloc, row.words, &mut source, &mut sink, &mut steps);
-    assert_eq!(rt; status.code(), row.status);
-    assert_eq!(rt; sink.bytes(), row.held);
-    Ok(())
-}
-
-/// A row with ample room and no fault, which has to end with this status and this report.
-fn plain_row<'a>(text: &'a [u8], order: &'a [u8], status: u8, held: &'a [u8]) -> Row<'a> {
+fn follow_row<'a>(text: &'a [u8], order: &'a [u8], ending: Ending, held: &'a [u8]) -> Row<'a> {
     Row {
-        words: &["follow"],
-        text,
-        order,
-        failing_reads: &[],
-        failing_puts: &[],
-        status,
+        run: plain_run(&["follow"], text, order),
+        ending,
         held,
     }
 }
 
-fn play_all<R: Threads + Wait + Sync + Abort>(
-    rt: &R,
-    alloc: Global,
-    rows: &[Row<'_>],
-) -> Result<(), Fail> {
-    for row in rows {
-        play::<Brand, R>(rt, alloc, row, Blank::new(1))?;
+fn done<'a>(text: &'a [u8], order: &'a [u8], held: &'a [u8]) -> Row<'a> {
+    follow_row(text, order, Ending::Done, held)
+}
+
+fn refused<'a>(text: &'a [u8], order: &'a [u8], ending: Ending) -> Row<'a> {
+    follow_row(text, order, ending, b"")
+}
+
+fn wrong_words<'a>(words: &'a [&'a str]) -> Row<'a> {
+    Row {
+        run: plain_run(words, PUBLISH, b"order\n0 1\n"),
+        ending: Ending::Usage,
+        held: b"",
     }
-    Ok(())
 }
 
 #[test]
 fn follow_plays_schedules(rt: HostRuntime) -> Result<(), Fail> {
+    let standing: &[u8] = b"transcript\nends\n0 stopped at 1\n1 stopped at 0\n";
     let rows = [
-        plain_row(
+        done(
             PUBLISH,
             b"order\n0 1\n",
-            0,
             b"transcript\n1 3\nends\n0 halted\n1 halted\n",
         ),
-        plain_row(
+        done(
             PUBLISH,
-            b"order\n1 0\n",
-            0,
+            b"order # both\n1*1\n\t0",
             b"transcript\n1 0\nends\n0 halted\n1 halted\n",
         ),
-        plain_row(
-            PUBLISH,
-            b"",
-            0,
-            b"transcript\nends\n0 stopped at 1\n1 stopped at 0\n",
-        ),
-        plain_row(
-            PUBLISH,
-            b"order\n",
-            0,
-            b"transcript\nends\n0 stopped at 1\n1 stopped at 0\n",
-        ),
-        plain_row(
+        done(PUBLISH, b"", standing),
+        done(PUBLISH, b"order", standing),
+        done(
             PUBLISH,
             b"order\n1\n",
-            0,
             b"transcript\n1 0\nends\n0 stopped at 1\n1 halted\n",
         ),
-        plain_row(b"", b"", 0, b"transcript\nends\n"),
+        done(b"", b"", b"transcript\nends\n"),
+        done(
+            GUARDED,
+            b"order\n0*2 1*2\n",
+            b"transcript\nends\n0 halted\n1 halted\n",
+        ),
+        done(
+            TRAPS,
+            b"order\n1 3\n",
+            b"transcript\nends\n0 trapped range at 1\n1 trapped again at 1\n2 trapped not-held at 0\n3 trapped held-at-halt at 1\n",
+        ),
     ];
     play_all(&rt, rt.alloc(), &rows)
 }
 
 #[test]
 fn follow_refuses_words_texts_and_schedules(rt: HostRuntime) -> Result<(), Fail> {
-    let unended = b"var x 0\nthread\npush 3\nwrite x\nhalt\nthread\nread x\nprint\n";
+    let unnamed = b"var x 0\nthread\nread y\nhalt\n";
     let rows = [
-        plain_row(PUBLISH, b"order\n0 0\n", 8, b""),
-        plain_row(PUBLISH, b"order\n2\n", 8, b""),
-        plain_row(unended, b"", 4, b""),
-        plain_row(PUBLISH, b"order", 4, b""),
-        Row {
-            words: &[],
-            ..plain_row(PUBLISH, b"order\n0 1\n", 1, b"")
-        },
-        Row {
-            words: &["run"],
-            ..plain_row(PUBLISH, b"order\n0 1\n", 1, b"")
-        },
-        Row {
-            words: &["follow", "follow"],
-            ..plain_row(PUBLISH, b"order\n0 1\n", 1, b"")
-        },
+        refused(PUBLISH, b"order\n0 0\n", Ending::NotEnabled(1)),
+        refused(PUBLISH, b"order\n2\n", Ending::NotEnabled(0)),
+        refused(GUARDED, b"order\n0 1\n", Ending::NotEnabled(1)),
+        refused(
+            unnamed,
+            b"order\nx\n",
+            Ending::Text(AsmKind::UnknownName, 3),
+        ),
+        // The order's lines are counted with those of the text, of which there are nine.
+        refused(
+            PUBLISH,
+            b"order\n0 1\n0*0\n",
+            Ending::Text(AsmKind::BadNumber, 12),
+        ),
+        // A word of the order is refused before any member of it.
+        refused(
+            PUBLISH,
+            b"order\n2 256\n",
+            Ending::Text(AsmKind::BadNumber, 11),
+        ),
+        wrong_words(&[]),
+        wrong_words(&["run"]),
+        wrong_words(&["follow", "follow"]),
     ];
     play_all(&rt, rt.alloc(), &rows)
+}
+
+/// The schedule `0 1` of two threads, over devices with these failing calls and this room.
+fn faulty<'a>(
+    failing_reads: &'a [u32],
+    failing_puts: &'a [u32],
+    room: usize,
+    ending: Ending,
+    held: &'a [u8],
+) -> Row<'a> {
+    let run = Run {
+        failing_reads,
+        failing_puts,
+        room,
+        ..plain_run(&["follow"], PUBLISH, b"order\n0 1\n")
+    };
+    Row { run, ending, held }
 }
 
 #[test]
 fn follow_tells_faults_of_devices(rt: HostRuntime) -> Result<(), Fail> {
     let rows = [
-        Row {
-            failing_puts: &[2],
-            ..plain_row(PUBLISH, b"order\n0 1\n", 9, b"tran")
-        },
-        Row {
-            failing_puts: &[1],
-            ..plain_row(PUBLISH, b"order\n0 1\n", 9, b"")
-        },
-        Row {
-            failing_reads: &[1],
-            ..plain_row(PUBLISH, b"order\n0 1\n", 2, b"")
-        },
-        Row {
-            failing_reads: &[2],
-            ..plain_row(PUBLISH, b"order\n0 1\n", 2, b"")
-        },
+        faulty(&[], &[2], 100, Ending::WriteFault, b"tran"),
+        faulty(&[], &[1], 100, Ending::WriteFault, b""),
+        faulty(&[], &[], 14, Ending::WriteFault, b"transcript\n1 3"),
+        faulty(&[1], &[], 100, Ending::ReadFault, b""),
+        faulty(&[2], &[], 100, Ending::ReadFault, b""),
+        faulty(&[1], &[1], 100, Ending::ReadFault, b""),
     ];
     play_all(&rt, rt.alloc(), &rows)
 }

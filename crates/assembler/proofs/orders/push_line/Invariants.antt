@@ -1,12 +1,15 @@
-use Rattle.std.proofs.Common.{◌≡◌, ◌≤◌, ◌+◌, [], length}
-use Rattle.std.specs.Option.{option_map_or}
-use Rattle.assembler.specs.Orders.{order_limit, with_words}
-use Rattle.assembler.specs.Words.{words_of}
+use Rattle.std.proofs.Common.{◌≡◌, ◌≤◌, length}
+use Rattle.assembler.specs.Words.{plain_words, words_of}
+use Rattle.assembler.specs.Orders.{order_limit}
+use Rattle.assembler.specs.OrderReading.{line_words, with_words}
 use Rattle.assembler.proofs.orders.push_line.Given as goal
 
-abbrev pub invariant-loop-left : goal.invariant-loop-left
-invariant-loop-left l =
-    (with_words l.order.items (option_map_or (λ rest. words_of rest.now) l.left []) ≡ with_words l.initial.order.items (words_of l.line)) × (length l.order.items ≤ order_limit)
+-- the words that are left, behind the members so far, are read as all words of the line
+abbrev pub invariant-loop-word : goal.invariant-loop-word
+invariant-loop-word l = record {
+  reading : with_words l.order.items (line_words l.number (plain_words l.rest)) ≡ with_words l.fn.order.items (line_words l.number (words_of l.line));
+  within : length l.order.items ≤ order_limit;
+}
 
-abbrev pub decreases-loop-left : goal.decreases-loop-left
-decreases-loop-left l = option_map_or (λ rest. length rest.now + 1) l.left 0
+abbrev pub decreases-loop-word : goal.decreases-loop-word
+decreases-loop-word l = length l.rest

@@ -1,7 +1,3 @@
-use Rattle.std.specs.Bool.{MatchBool}
-use Rattle.sc_machine.specs.Machine.{can}
-use Rattle.sc_machine.specs.Schedule.{turn}
-use Rattle.stride_cli.specs.Playing.{Shows}
 use Rattle.stride_cli.proofs.Playthrough.{nothing_played, refused, one_more_played}
 use Rattle.stride_cli.proofs.playing.play.Goals as goal
 
@@ -10,8 +6,8 @@ loop-place-init c = nothing_played c.args.table.now c.requires.table c.requires.
 
 pub returns-in-Ok-false : goal.returns-in-Ok-false
 returns-in-Ok-false c =
-    refused c.args.table.now c.loop-place.table c.args.schedule.now c.loop-place.place c.loop-place-test.true c.loop-place.invariant
-    (rw c.in-Ok-false.field-0-test at (c.in-Ok-false.ensures.taken c.loop-place.invariant.machine c.loop-place.invariant.shows))
+    let stuck = rw c.in-Ok-false.field-0-test at (c.in-Ok-false.ensures.taken c.loop-place.invariant.machine c.loop-place.invariant.shows) in
+    refused c.args.table.now c.loop-place.table c.args.schedule.now c.loop-place.place c.loop-place-test.true c.loop-place.invariant stuck.0
 
 pub loop-place-preserved : goal.loop-place-preserved
 loop-place-preserved c =

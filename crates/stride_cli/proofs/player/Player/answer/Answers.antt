@@ -1,7 +1,6 @@
-use Rattle.std.proofs.Common.{◌≡◌, ◌∙◌, ◌++◌, ap, sym, refl, arith, true, unwrap_or}
+use Rattle.std.proofs.Common.{ap, arith, unwrap_or}
 use Rattle.std.proofs.lemmas.Result.{on_ok_weaker}
 use Rattle.sc_machine.specs.ThreadStep.{Thread}
-use Rattle.stride_cli.specs.Playing.{labelled}
 use Rattle.stride_cli.proofs.Going.{answered_made, out_grows, went_on}
 use Rattle.stride_cli.proofs.player.Player.answer.Goals as goal
 

@@ -1,4 +1,4 @@
-use Rattle.std.proofs.Common.{◌≡◌, ◌∙◌, ◌++◌, ap, sym, arith, length, refl}
+use Rattle.std.proofs.Common.{◌∙◌, ◌++◌, ap, sym, arith, length, refl}
 use Rattle.std.specs.List.{flat_map, range_with_len}
 use Rattle.sc_machine.specs.ThreadStep.{start_thread}
 use Rattle.sc_machine.specs.Schedule.{settled_lines}

@@ -1,0 +1,16 @@
+use Rattle.std.proofs.Common.{◌≡◌, ◌∙◌, ap}
+use Rattle.assembler.specs.Canonical.{canonical}
+use Rattle.assembler.specs.Programs.{spelled}
+use Rattle.assembler.proofs.PrintedLines.{three_parts}
+use Rattle.assembler.proofs.ReadBack.{canonical_is_read_back}
+use Rattle.assembler.proofs.printing.print_program.Goals as goal
+
+pub returns-clause-canonical : goal.returns-clause-canonical
+returns-clause-canonical c =
+    three_parts c.args.program.now _ _ _ _ c.new-text.ensures.items c.in_ok-put_decls.ensures c.in_ok-put_monitors.ensures c.in_ok-put_threads.ensures
+
+pub returns-clause-read_back : goal.returns-clause-read_back
+returns-clause-read_back c =
+    let printed : c.put_threads.new.text.items ≡ canonical c.args.program.now =
+    three_parts c.args.program.now _ _ _ _ c.new-text.ensures.items c.in_ok-put_decls.ensures c.in_ok-put_monitors.ensures c.in_ok-put_threads.ensures in
+    ap spelled printed ∙ canonical_is_read_back c.args.program.now c.is_sound.ensures.formed c.is_sound.ensures.valid

@@ -1,0 +1,170 @@
+-- What holds of a run under way, whatever order it is driven in, and that one atomic step of a thread keeps it.
+use Rattle.std.proofs.Common.{◌≡◌, ℕ, ◌+◌, ◌<◌, Bool, true, false, cond, List, [], ◌∷◌, Option, Some, None, length, refl, sym, ◌∙◌, ap, subst, inl, inr, arith}
+use Rattle.std.proofs.lemmas.Bool.{cases_eq, cond_both, leb-false}
+use Rattle.std.proofs.lemmas.List.{get_or-set_same, get_or-set_other, length-set}
+use Rattle.std.specs.Option.{option_map}
+use Rattle.std.specs.Prelude.{nat_le}
+use Rattle.stride_isa.specs.Listing.{op_at, starts_of}
+use Rattle.sc_machine.specs.declared.stop.Stop.{Stop}
+use Rattle.sc_machine.specs.declared.stop.Stop.TheVariants as stops
+use Rattle.sc_machine.specs.ThreadRun.{IsShared}
+use Rattle.sc_machine.specs.ThreadStep.{Thread, start_thread, answered, settled, stop_of, done_held}
+use Rattle.sc_machine.specs.Schedule.{stopped}
+use Rattle.interleavings.specs.declared.acts.Acts.{Acts}
+use Rattle.interleavings.specs.declared.acts.Phase.{Phase}
+use Rattle.interleavings.specs.declared.event.Event.{Event}
+use Rattle.interleavings.specs.AtomicStep.{Number, word_of, May, is_even, acts_after, phase_after}
+use Rattle.interleavings.specs.Events.{read_of}
+use Rattle.interleavings.specs.History.{Step, after, IsHistory}
+use Rattle.interleavings.specs.Recording.{Drive, Setting, state_of, acts_of, thread_of, next_kind, at_of, next_step, finished_in, word_given, gives_up, thread_after, stepped, advanced_at, advance, advance_all, stranger, Among}
+use Rattle.interleavings.proofs.HeldFlags.{flags_after, HoldsAtExit, IsAnsweredAs, stands_answered, settled-held}
+use Rattle.interleavings.proofs.StepPeople.{step_here, step_elsewhere}
+use Rattle.interleavings.proofs.OddNumbers.{Marks, odd_after}
+use Rattle.interleavings.proofs.InPlace.{AreInPlace, IsInPlaceAfter, may_next, in_place_after}
+
+-- what a thread has done and is doing fits where it stands
+abbrev pub IsThreadInPlace : Setting → ℕ → Thread → Acts → Type 0
+IsThreadInPlace g t s acts = AreInPlace g.patience (stop_of g.program t s) s.held acts
+
+-- a thread that marks a cell after these steps
+abbrev pub IsMarked : Setting → List Step → ℕ → Type 0
+IsMarked g steps cell = (t : ℕ) × (t < length g.program.threads) × Marks cell (acts_of g steps t).phase
+
+-- the steps of a run are a history of the program's threads, each thread is in place, and each number that is odd was
+-- made so by a writer that has not completed it
+pub record IsRun (g : Setting) (d : Drive) : Type 0 where
+  pub lawful : IsHistory (starts_of g.program.decls) d.steps
+  pub members : (s : Step) → Among s d.steps → s.who < length g.program.threads
+  pub count : length d.threads ≡ length g.program.threads
+  pub in_place : (t : ℕ) → t < length g.program.threads → IsThreadInPlace g t (thread_of d t) (acts_of g d.steps t)
+  pub odd : (cell : ℕ) → is_even ((state_of g d.steps).words (Number cell)) ≡ false → IsMarked g d.steps cell
+
+-- at a shared instruction the answer sets the flags as that says, and an exit is of a monitor that is held
+answered_flags : (stop : Stop) (g : Setting) (t : ℕ) (s : Thread) → IsShared stop → stop_of g.program t s ≡ stop → (done_held (op_at g.program t s.pc) s.held ≡ flags_after stop s.held) × HoldsAtExit stop s.held
+answered_flags stop g t s shared e = by_stop stop shared (subst (λ (x : Stop). IsAnsweredAs x (op_at g.program t s.pc) s.held) e (stands_answered g.program t s))
+  where
+    by_stop : (x : Stop) → IsShared x → IsAnsweredAs x (op_at g.program t s.pc) s.held → (done_held (op_at g.program t s.pc) s.held ≡ flags_after x s.held) × HoldsAtExit x s.held
+    by_stop (stops.Read cell) shared h = h
+    by_stop (stops.Write cell value) shared h = h
+    by_stop (stops.Enter monitor) shared h = h
+    by_stop (stops.Exit monitor) shared h = h
+    by_stop (stops.Ended end) shared h = absurd shared
+
+-- a thread that is in place after a step is so where it stands then
+thread_after-in_place : (g : Setting) (t : ℕ) (s : Thread) (stop : Stop) (acts : Acts) (finished : Option Event) → stop_of g.program t s ≡ stop → done_held (op_at g.program t s.pc) s.held ≡ flags_after stop s.held → IsInPlaceAfter g.patience stop s.held acts.name acts.phase acts.held acts.looks finished → IsThreadInPlace g t (thread_after g t finished acts.looks s) acts
+thread_after-in_place g t s stop acts (Some event) e flags after_step =
+    let s' = answered g.program g.fuel t (word_given (read_of event)) s in
+    let made = settled g.program g.fuel t s' in
+    let same : made.held ≡ flags_after stop s.held = settled-held g.program g.fuel t s' ∙ flags in
+    subst (λ (f : List Bool). AreInPlace g.patience (stop_of g.program t made) f acts) (sym same) (after_step (stop_of g.program t made))
+thread_after-in_place g t s stop acts None e flags after_step = cond_both (gives_up g.patience acts.looks) (stopped s) s (λ x. IsThreadInPlace g t x acts) (λ gives. after_step.1 _ gives) (λ calm. subst (λ (x : Stop). AreInPlace g.patience x s.held acts) (sym e) (after_step.0 calm))
+
+-- along equations of the thread and of what it does
+thread_in_place-along : (g : Setting) (t : ℕ) (s s' : Thread) (acts acts' : Acts) → s' ≡ s → acts' ≡ acts → IsThreadInPlace g t s acts → IsThreadInPlace g t s' acts'
+thread_in_place-along g t s s' acts acts' same_thread same_acts h = subst (λ (x : Thread). IsThreadInPlace g t x acts') (sym same_thread) (subst (λ (x : Acts). IsThreadInPlace g t s x) (sym same_acts) h)
+
+-- one that marked the cell still does after a step, if it does where the step is its after_step
+still_marked : (g : Setting) (s : Step) (steps : List Step) (cell : ℕ) → (Marks cell (acts_of g steps s.who).phase → Marks cell (acts_of g (s ∷ steps) s.who).phase) → IsMarked g steps cell → IsMarked g (s ∷ steps) cell
+still_marked g s steps cell still w = (
+  w.0,
+  w.1,
+  elim (cases_eq w.0 s.who) [
+    | inl same ↦ subst (λ (x : ℕ). Marks cell (acts_of g (s ∷ steps) x).phase) (sym same) (still (subst (λ (x : ℕ). Marks cell (acts_of g steps x).phase) same w.2))
+    | inr other ↦ subst (λ (a : Acts). Marks cell a.phase) (sym (step_elsewhere g s steps w.0 other)) w.2
+  ],
+)
+
+module _ (g : Setting) (t : ℕ) (stop : Stop) (d : Drive) (there : t < length g.program.threads) (shared : IsShared stop) (e : stop_of g.program t (thread_of d t) ≡ stop) (run : IsRun g d) where
+  -- the thread is in place at its stop
+  in_place_here : AreInPlace g.patience stop (thread_of d t).held (acts_of g d.steps t)
+  in_place_here = subst (λ (x : Stop). AreInPlace g.patience x (thread_of d t).held (acts_of g d.steps t)) e (run.in_place t there)
+
+  -- its next step may be made
+  may_here : May (next_kind stop (acts_of g d.steps t).phase) (at_of stop) (acts_of g d.steps t)
+  may_here = may_next g.patience stop (thread_of d t).held (acts_of g d.steps t) shared (answered_flags stop g t (thread_of d t) shared e).1 in_place_here
+
+  -- the steps are those of the program's threads
+  stepped-members : (s : Step) → Among s (stepped g t stop d).steps → s.who < length g.program.threads
+  stepped-members s (inl same) = subst (λ (x : Step). x.who < length g.program.threads) (sym same) there
+  stepped-members s (inr among) = run.members s among
+
+  -- the thread after its step
+  stepped_thread : Thread
+  stepped_thread = let step = next_step t stop (acts_of g d.steps t).phase in thread_after g t (finished_in (state_of g d.steps) step) (acts_of g (step ∷ d.steps) t).looks (thread_of d t)
+
+  -- it is in place after its step
+  stepped-in_place_here : IsThreadInPlace g t stepped_thread (acts_of g (stepped g t stop d).steps t)
+  unfolding stepped_thread
+  stepped-in_place_here =
+      let old = acts_of g d.steps t in
+      let step = next_step t stop old.phase in
+      let st = state_of g d.steps in
+      let met = st.words (word_of step.kind step.at) in
+      let new = acts_after step.kind step.at step.value old met in
+      let fits : IsThreadInPlace g t (thread_after g t (finished_in st step) new.looks (thread_of d t)) new =
+      thread_after-in_place g t (thread_of d t) stop new (finished_in st step) e (answered_flags stop g t (thread_of d t) shared e).0
+      (in_place_after g.patience stop (thread_of d t).held old.name old.phase old.events old.held old.looks met shared in_place_here) in
+      subst (λ (a : Acts). IsThreadInPlace g t (thread_after g t (finished_in st step) a.looks (thread_of d t)) a) (sym (step_here g step d.steps)) fits
+
+  -- and so is each thread
+  stepped-in_place : (u : ℕ) → u < length g.program.threads → IsThreadInPlace g u (thread_of (stepped g t stop d) u) (acts_of g (stepped g t stop d).steps u)
+  unfolding stepped_thread
+  stepped-in_place u below = elim (cases_eq u t) [
+    | inl same ↦ subst (λ (x : ℕ). IsThreadInPlace g x (thread_of (stepped g t stop d) x) (acts_of g (stepped g t stop d).steps x)) (sym same)
+        (let acts = acts_of g (stepped g t stop d).steps t in
+        thread_in_place-along g t stepped_thread (thread_of (stepped g t stop d) t) acts acts (get_or-set_same d.threads t stepped_thread start_thread (omega (arith, run.count))) refl stepped-in_place_here)
+    | inr other ↦ thread_in_place-along g u (thread_of d u) (thread_of (stepped g t stop d) u) (acts_of g d.steps u) (acts_of g (stepped g t stop d).steps u)
+        (get_or-set_other d.threads t u stepped_thread start_thread other)
+        (step_elsewhere g (next_step t stop (acts_of g d.steps t).phase) d.steps u other)
+        (run.in_place u below)
+  ]
+
+  -- each number that is odd was made so by a writer that has not completed it
+  stepped-odd : (cell : ℕ) → is_even ((state_of g (stepped g t stop d).steps).words (Number cell)) ≡ false → IsMarked g (stepped g t stop d).steps cell
+  unfolding after
+  stepped-odd cell odd =
+      let acts = acts_of g d.steps t in
+      let step = next_step t stop acts.phase in
+      let here : (acts_of g (step ∷ d.steps) t).phase ≡ phase_after step.kind step.at step.value acts.phase ((state_of g d.steps).words (word_of step.kind step.at)) = ap (λ (a : Acts). a.phase) (step_here g step d.steps) in
+      elim (odd_after (state_of g d.steps).words cell step.kind step.at step.value acts.name acts.phase acts.events acts.held acts.looks may_here.begins odd) [
+        | inl now ↦ (t, there, subst (λ (x : Phase). Marks cell x) (sym here) now)
+        | inr (was, still) ↦ still_marked g step d.steps cell (subst (λ (x : Phase). Marks cell acts.phase → Marks cell x) (sym here) still) (run.odd cell was)
+      ]
+
+  -- the step keeps what holds of a run
+  stepped-run : IsRun g (stepped g t stop d)
+  unfolding IsHistory
+  stepped-run = record {
+    lawful = (may_here, run.lawful);
+    members = stepped-members;
+    count = length-set d.threads t _ ∙ run.count;
+    in_place = stepped-in_place;
+    odd = stepped-odd;
+  }
+
+-- by the stop: a step at a shared instruction, or none at an end
+advanced_at-run : (g : Setting) (t : ℕ) (stop : Stop) (d : Drive) → t < length g.program.threads → stop_of g.program t (thread_of d t) ≡ stop → IsRun g d → IsRun g (advanced_at g t stop d)
+advanced_at-run g t (stops.Read cell) d there e run = stepped-run g t (stops.Read cell) d there tt e run
+advanced_at-run g t (stops.Write cell value) d there e run = stepped-run g t (stops.Write cell value) d there tt e run
+advanced_at-run g t (stops.Enter monitor) d there e run = stepped-run g t (stops.Enter monitor) d there tt e run
+advanced_at-run g t (stops.Exit monitor) d there e run = stepped-run g t (stops.Exit monitor) d there tt e run
+advanced_at-run g t (stops.Ended end) d there e run = run
+
+-- one atomic step of a thread keeps what holds of a run
+pub advance-run : (g : Setting) (t : ℕ) (d : Drive) → t < length g.program.threads → IsRun g d → IsRun g (advance g t d)
+unfolding advance
+advance-run g t d there run = advanced_at-run g t (stop_of g.program t (thread_of d t)) d there refl run
+
+-- the place of a stranger among the rest counts from the first
+no_stranger : (b : Bool) (rest : Option ℕ) → cond b (Some 0) (option_map (λ place. place + 1) rest) ≡ None → (b ≡ false) × (rest ≡ None)
+no_stranger true rest e = cc
+no_stranger false None e = (refl, refl)
+no_stranger false (Some place) e = cc
+
+-- the steps of an order that names threads of the program keep it
+pub advance_all-run : (g : Setting) (order : List ℕ) (d : Drive) → stranger (length g.program.threads) order ≡ None → IsRun g d → IsRun g (advance_all g order d)
+unfolding advance_all stranger
+advance_all-run g [] d known run = run
+advance_all-run g (t ∷ ts) d known run =
+    let parts = no_stranger (nat_le (length g.program.threads) t) (stranger (length g.program.threads) ts) known in
+    advance_all-run g ts (advance g t d) parts.1 (advance-run g t d (leb-false (length g.program.threads) t parts.0) run)

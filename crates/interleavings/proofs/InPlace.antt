@@ -1,0 +1,201 @@
+-- One atomic step of a thread at its shared instruction: it may be made, and the thread is in place after it.
+use Rattle.std.proofs.Common.{◌≡◌, ◌≢◌, ℕ, ◌+◌, ◌*◌, ◌/◌, ◌==◌, Bool, true, false, cond, List, [], ◌∷◌, Option, Some, None, length, refl, sym, ◌∙◌, ap, subst, inl, inr}
+use Rattle.std.proofs.lemmas.Bool.{true≢false, cases_lt, cases_eq, eqb-true, eqb-false, ne_eqb}
+use Rattle.std.proofs.lemmas.List.{get_or-set_same, get_or-set_other, get_or_past, length-set}
+use Rattle.std.specs.Prelude.{IsSome, not, filter, slice_set}
+use Rattle.sc_machine.specs.declared.end.End.{End}
+use Rattle.sc_machine.specs.declared.stop.Stop.{Stop}
+use Rattle.sc_machine.specs.declared.stop.Stop.TheVariants as stops
+use Rattle.sc_machine.specs.ThreadRun.{IsShared}
+use Rattle.sc_machine.specs.ThreadStep.{holds}
+use Rattle.interleavings.specs.declared.acts.Acts.{Acts}
+use Rattle.interleavings.specs.declared.acts.HeldTurn.{HeldTurn}
+use Rattle.interleavings.specs.declared.acts.OddLooks.{OddLooks}
+use Rattle.interleavings.specs.declared.acts.Phase.{Phase}
+use Rattle.interleavings.specs.declared.acts.Phase.TheVariants.{Idle, Loaded, InTurn, Numbered, Marked, Stored, Completed, Looked}
+use Rattle.interleavings.specs.declared.event.Event.{Event}
+use Rattle.interleavings.specs.AtomicStep.{held_turn, Begins, Suits, May, is_even, read_if, entered_if, finished_by, phase_if, phase_after, name_after, held_if, held_after, looked, looks_after}
+use Rattle.interleavings.specs.Recording.{next_kind, at_of, value_of, gives_up}
+use Rattle.interleavings.proofs.HeldFlags.{flags_after, HoldsAtExit}
+
+-- the phase is one of the shared instruction at which the thread stands; at its end it is idle
+abbrev pub IsPhaseAt : Phase → Stop → Type 0
+IsPhaseAt Idle stop = Unit {0}
+IsPhaseAt (Loaded at value) (stops.Read cell) = cell ≡ at
+IsPhaseAt (InTurn at) (stops.Write cell value) = cell ≡ at
+IsPhaseAt (Numbered at n) (stops.Write cell value) = cell ≡ at
+IsPhaseAt (Marked at n) (stops.Write cell value) = cell ≡ at
+IsPhaseAt (Stored at n word) (stops.Write cell value) = cell ≡ at
+IsPhaseAt (Completed at n word) (stops.Write cell value) = cell ≡ at
+IsPhaseAt (Looked at turn) (stops.Enter monitor) = monitor ≡ at
+IsPhaseAt phase stop = ⊥
+
+-- each monitor whose flag is up is held for a turn
+abbrev pub HasTurns : List Bool → List HeldTurn → Type 0
+HasTurns flags held = (monitor : ℕ) → holds flags monitor ≡ true → IsSome (held_turn monitor held)
+
+-- a thread that has not ended has looked less often in a row than the patience says
+abbrev pub IsPatient : ℕ → Stop → Option OddLooks → Type 0
+IsPatient patience (stops.Ended end) row = Unit {0}
+IsPatient patience stop row = gives_up patience row ≡ false
+
+-- a thread is in place: it has a name, and what it is doing fits where it stands and the flags that are up
+pub record IsInPlace (patience : ℕ) (stop : Stop) (flags : List Bool) (name : Option ℕ) (phase : Phase) (held : List HeldTurn) (looks : Option OddLooks) : Type 0 where
+  pub named : IsSome name
+  pub fits : IsPhaseAt phase stop
+  pub turns : HasTurns flags held
+  pub patient : IsPatient patience stop looks
+
+-- the same of all that a thread has done and is doing
+abbrev pub AreInPlace : ℕ → Stop → List Bool → Acts → Type 0
+AreInPlace patience stop flags acts = IsInPlace patience stop flags acts.name acts.phase acts.held acts.looks
+
+-- a phase of the shared instruction is one in which its next step begins
+begins_next : (stop : Stop) (phase : Phase) → IsShared stop → IsPhaseAt phase stop → Begins (next_kind stop phase) (at_of stop) phase
+begins_next (stops.Read cell) Idle shared fits = tt
+begins_next (stops.Read cell) (Loaded at value) shared fits = fits
+begins_next (stops.Write cell value) Idle shared fits = tt
+begins_next (stops.Write cell value) (InTurn at) shared fits = fits
+begins_next (stops.Write cell value) (Numbered at n) shared fits = fits
+begins_next (stops.Write cell value) (Marked at n) shared fits = fits
+begins_next (stops.Write cell value) (Stored at n word) shared fits = fits
+begins_next (stops.Write cell value) (Completed at n word) shared fits = fits
+begins_next (stops.Enter monitor) Idle shared fits = tt
+begins_next (stops.Enter monitor) (Looked at turn) shared fits = fits
+begins_next (stops.Exit monitor) Idle shared fits = tt
+begins_next (stops.Ended end) phase shared fits = absurd shared
+begins_next stop phase shared fits = absurd fits
+
+-- a thread with a name, which has the turn where it stands at an exit, suits its next step
+suits_next : (stop : Stop) (phase : Phase) (acts : Acts) → IsShared stop → IsPhaseAt phase stop → IsSome acts.name → ((monitor : ℕ) → stop ≡ stops.Exit monitor → IsSome (held_turn monitor acts.held)) → Suits (next_kind stop phase) (at_of stop) acts
+suits_next (stops.Read cell) Idle acts shared fits named turn = named
+suits_next (stops.Read cell) (Loaded at value) acts shared fits named turn = named
+suits_next (stops.Write cell value) Idle acts shared fits named turn = named
+suits_next (stops.Write cell value) (InTurn at) acts shared fits named turn = named
+suits_next (stops.Write cell value) (Numbered at n) acts shared fits named turn = named
+suits_next (stops.Write cell value) (Marked at n) acts shared fits named turn = named
+suits_next (stops.Write cell value) (Stored at n word) acts shared fits named turn = named
+suits_next (stops.Write cell value) (Completed at n word) acts shared fits named turn = named
+suits_next (stops.Enter monitor) Idle acts shared fits named turn = named
+suits_next (stops.Enter monitor) (Looked at count) acts shared fits named turn = named
+suits_next (stops.Exit monitor) Idle acts shared fits named turn = (named, turn monitor refl)
+suits_next (stops.Ended end) phase acts shared fits named turn = absurd shared
+suits_next stop phase acts shared fits named turn = absurd fits
+
+-- a thread that stands at an exit holds the monitor for a turn
+turn_at_exit : (stop : Stop) (flags : List Bool) (held : List HeldTurn) → HoldsAtExit stop flags → HasTurns flags held → (monitor : ℕ) → stop ≡ stops.Exit monitor → IsSome (held_turn monitor held)
+turn_at_exit stop flags held there turns monitor e = turns monitor (subst (λ (x : Stop). HoldsAtExit x flags) e there)
+
+-- the next step of a thread that stands at a shared instruction may be made
+pub may_next : (patience : ℕ) (stop : Stop) (flags : List Bool) (acts : Acts) → IsShared stop → HoldsAtExit stop flags → AreInPlace patience stop flags acts → May (next_kind stop acts.phase) (at_of stop) acts
+may_next patience stop flags acts shared there before = record {
+  begins = begins_next stop acts.phase shared before.fits;
+  suits = suits_next stop acts.phase acts shared before.fits before.named (turn_at_exit stop flags acts.held there before.turns);
+}
+
+-- the thread is in place after a step: where it finishes no event, at the same stop, or at an end if it gives up; where it
+-- finishes one, at any stop with the flags that the answer leaves
+abbrev pub IsInPlaceAfter : ℕ → Stop → List Bool → Option ℕ → Phase → List HeldTurn → Option OddLooks → Option Event → Type 0
+IsInPlaceAfter patience stop flags name phase held looks None = (gives_up patience looks ≡ false → IsInPlace patience stop flags name phase held looks) × ((end : End) → gives_up patience looks ≡ true → IsInPlace patience (stops.Ended end) flags name phase held looks)
+IsInPlaceAfter patience stop flags name phase held looks (Some event) = (other : Stop) → IsInPlace patience other (flags_after stop flags) name phase held looks
+
+-- a thread that does not give up is patient wherever it stands
+pub patient_at : (patience : ℕ) (stop : Stop) (looks : Option OddLooks) → gives_up patience looks ≡ false → IsPatient patience stop looks
+patient_at patience (stops.Read cell) looks e = e
+patient_at patience (stops.Write cell value) looks e = e
+patient_at patience (stops.Enter monitor) looks e = e
+patient_at patience (stops.Exit monitor) looks e = e
+patient_at patience (stops.Ended end) looks e = tt
+
+module _ (patience : ℕ) (flags : List Bool) (name : Option ℕ) (held : List HeldTurn) (looks : Option OddLooks) (named : IsSome name) (turns : HasTurns flags held) where
+  -- a step by which only the phase changes, and that finishes nothing
+  goes_on : (stop : Stop) (phase : Phase) → IsPhaseAt phase stop → gives_up patience looks ≡ false → IsInPlaceAfter patience stop flags name phase held looks None
+  goes_on stop phase fits e = (
+    λ e. record { named = named; fits = fits; turns = turns; patient = patient_at patience stop looks e },
+    λ end gives. absurd (true≢false (sym gives ∙ e)),
+  )
+
+  -- a step that finishes a read or a write
+  finishes : (stop : Stop) → gives_up patience looks ≡ false → IsInPlace patience stop flags name Idle held looks
+  finishes stop e = record { named = named; fits = tt; turns = turns; patient = patient_at patience stop looks e }
+
+-- a choice is some turn where the rest is, if that is chosen
+some_chosen : (b : Bool) (turn : ℕ) (rest : Option ℕ) → (b ≡ false → IsSome rest) → IsSome (cond b (Some turn) rest)
+some_chosen true turn rest h = refl
+some_chosen false turn rest h = h refl
+
+-- where the first turn is not chosen, the rest is some turn
+some_behind : (b : Bool) (turn : ℕ) (rest : Option ℕ) → IsSome (cond b (Some turn) rest) → b ≡ false → IsSome rest
+some_behind true turn rest h e = absurd (true≢false e)
+some_behind false turn rest h e = h
+
+-- an entry sets a flag and gives a turn of its monitor
+turns_after_entry : (flags : List Bool) (held : List HeldTurn) (monitor turn : ℕ) → HasTurns flags held → HasTurns (slice_set flags monitor true) (record { mon = monitor; turn = turn } ∷ held)
+turns_after_entry flags held monitor turn turns m up =
+    some_chosen (monitor == m) turn (held_turn m held) (λ e. turns m (sym (get_or-set_other flags monitor m true false (λ same. eqb-false monitor m e (sym same))) ∙ up))
+
+-- the turns of other monitors stay where those of one are dropped
+turn_kept : (held : List HeldTurn) (monitor m : ℕ) → m ≢ monitor → IsSome (held_turn m held) → IsSome (held_turn m (filter (λ h. not (h.mon == monitor)) held))
+turn_kept [] monitor m other there = there
+turn_kept (h ∷ held) monitor m other there = kept (h.mon == monitor) (λ e. ne_eqb h.mon m (λ same. other (sym same ∙ eqb-true h.mon monitor e))) (turn_kept held monitor m other)
+  where
+    kept : (dropped : Bool) → (dropped ≡ true → (h.mon == m) ≡ false) → (IsSome (held_turn m held) → IsSome (held_turn m (filter (λ h. not (h.mon == monitor)) held))) → IsSome (held_turn m (cond (not dropped) (h ∷ filter (λ h. not (h.mon == monitor)) held) (filter (λ h. not (h.mon == monitor)) held)))
+    kept true differs rest = rest (some_behind (h.mon == m) h.turn (held_turn m held) there (differs refl))
+    kept false differs rest = some_chosen (h.mon == m) h.turn _ (λ e. rest (some_behind (h.mon == m) h.turn (held_turn m held) there e))
+
+-- a flag that is taken down is down, also past the end of the list
+lowered : (flags : List Bool) (monitor : ℕ) → holds (slice_set flags monitor false) monitor ≡ false
+lowered flags monitor = elim (cases_lt monitor (length flags)) [
+  | inl h ↦ get_or-set_same flags monitor false false h
+  | inr h ↦ get_or_past (slice_set flags monitor false) monitor false (simp length-set h)
+]
+
+-- an exit takes the flag down and drops the turns of its monitor
+turns_after_exit : (flags : List Bool) (held : List HeldTurn) (monitor : ℕ) → HasTurns flags held → HasTurns (slice_set flags monitor false) (filter (λ h. not (h.mon == monitor)) held)
+turns_after_exit flags held monitor turns m up = elim (cases_eq m monitor) [
+  | inl same ↦ absurd (true≢false (sym up ∙ ap (λ x. holds (slice_set flags monitor false) x) same ∙ lowered flags monitor))
+  | inr other ↦ turn_kept held monitor m other (turns m (sym (get_or-set_other flags monitor m false false other) ∙ up))
+]
+
+module _ (patience : ℕ) (flags : List Bool) (name : Option ℕ) (held : List HeldTurn) (looks : Option OddLooks) (named : IsSome name) (turns : HasTurns flags held) (calm : gives_up patience looks ≡ false) where
+  -- a read loads the number, and finishes where that is even
+  number_loaded : (b : Bool) (cell at value bound : ℕ) → cell ≡ at → IsInPlaceAfter patience (stops.Read cell) flags name (phase_if b Idle (Loaded at value)) held looks (read_if b (Loaded at value) bound)
+  number_loaded true cell at value bound e = λ other. finishes patience flags name held looks named turns other calm
+  number_loaded false cell at value bound e = goes_on patience flags name held looks named turns (stops.Read cell) (Loaded at value) e calm
+
+  -- a write takes its turn where that is free
+  turn_taken : (b : Bool) (cell value : ℕ) → IsInPlaceAfter patience (stops.Write cell value) flags name (phase_if b (InTurn cell) Idle) held looks None
+  turn_taken true cell value = goes_on patience flags name held looks named turns (stops.Write cell value) (InTurn cell) refl calm
+  turn_taken false cell value = goes_on patience flags name held looks named turns (stops.Write cell value) Idle tt calm
+
+  -- an entry looks at its monitor, and counts the looks that find it held
+  monitor_looked : (b : Bool) (monitor turn : ℕ) → IsInPlaceAfter patience (stops.Enter monitor) flags name (phase_if b (Looked monitor turn) Idle) held (looked b monitor looks) None
+  monitor_looked true monitor turn = (
+    λ e. record { named = named; fits = refl; turns = turns; patient = e },
+    λ end gives. record { named = named; fits = absurd (true≢false (sym gives)); turns = turns; patient = tt },
+  )
+  monitor_looked false monitor turn = (
+    λ e. record { named = named; fits = tt; turns = turns; patient = e },
+    λ end gives. record { named = named; fits = tt; turns = turns; patient = tt },
+  )
+
+  -- an entry takes its monitor where that is still as it was seen
+  monitor_entered : (b : Bool) (monitor turn : ℕ) → IsInPlaceAfter patience (stops.Enter monitor) flags name Idle (held_if b (record { mon = monitor; turn = turn }) held) looks (entered_if b monitor turn)
+  monitor_entered true monitor turn = λ other. finishes patience (slice_set flags monitor true) name (record { mon = monitor; turn = turn } ∷ held) looks named (turns_after_entry flags held monitor turn turns) other calm
+  monitor_entered false monitor turn = goes_on patience flags name held looks named turns (stops.Enter monitor) Idle tt calm
+
+-- by the shared instruction and the phase: a thread in place is in place after its next step, whatever word that meets
+pub in_place_after : (patience : ℕ) (stop : Stop) (flags : List Bool) (name : Option ℕ) (phase : Phase) (events : List Event) (held : List HeldTurn) (looks : Option OddLooks) (met : ℕ) → IsShared stop → IsInPlace patience stop flags name phase held looks → IsInPlaceAfter patience stop flags (name_after (next_kind stop phase) name met) (phase_after (next_kind stop phase) (at_of stop) (value_of stop) phase met) (held_after (next_kind stop phase) (at_of stop) phase held met) (looks_after (next_kind stop phase) (at_of stop) looks met) (finished_by (next_kind stop phase) (at_of stop) (record { name = name; phase = phase; events = events; held = held; looks = looks }) met)
+in_place_after patience (stops.Read cell) flags name Idle events held looks met shared before = goes_on patience flags name held looks before.named before.turns (stops.Read cell) (Loaded cell met) refl before.patient
+in_place_after patience (stops.Read cell) flags name (Loaded at value) events held looks met shared before = number_loaded patience flags name held looks before.named before.turns before.patient (is_even met) cell at value (met / 2) before.fits
+in_place_after patience (stops.Write cell value) flags name Idle events held looks met shared before = turn_taken patience flags name held looks before.named before.turns before.patient (met == 0) cell value
+in_place_after patience (stops.Write cell value) flags name (InTurn at) events held looks met shared before = goes_on patience flags name held looks before.named before.turns (stops.Write cell value) (Numbered cell (met / 2)) refl before.patient
+in_place_after patience (stops.Write cell value) flags name (Numbered at n) events held looks met shared before = goes_on patience flags name held looks before.named before.turns (stops.Write cell value) (Marked at n) before.fits before.patient
+in_place_after patience (stops.Write cell value) flags name (Marked at n) events held looks met shared before = goes_on patience flags name held looks before.named before.turns (stops.Write cell value) (Stored at n value) before.fits before.patient
+in_place_after patience (stops.Write cell value) flags name (Stored at n word) events held looks met shared before = goes_on patience flags name held looks before.named before.turns (stops.Write cell value) (Completed at n word) before.fits before.patient
+in_place_after patience (stops.Write cell value) flags name (Completed at n word) events held looks met shared before = λ other. finishes patience flags name held looks before.named before.turns other before.patient
+in_place_after patience (stops.Enter monitor) flags name Idle events held looks met shared before = monitor_looked patience flags name held looks before.named before.turns before.patient (is_even met) monitor (met / 2)
+in_place_after patience (stops.Enter monitor) flags name (Looked at turn) events held looks met shared before = monitor_entered patience flags name held looks before.named before.turns before.patient (met == 2 * turn) monitor (turn + 1)
+in_place_after patience (stops.Exit monitor) flags name Idle events held looks met shared before = λ other. finishes patience (slice_set flags monitor false) name (filter (λ h. not (h.mon == monitor)) held) looks before.named (turns_after_exit flags held monitor before.turns) other before.patient
+in_place_after patience (stops.Ended end) flags name phase events held looks met shared before = absurd shared
+in_place_after patience stop flags name phase events held looks met shared before = absurd before.fits

@@ -1,0 +1,6 @@
+use Rattle.std.proofs.Common.{◌≡◌, take}
+use Rattle.stride_isa.specs.Listing.{starts_of}
+use Rattle.interleavings.proofs.traces.starting_values.Given as goal
+
+abbrev pub invariant-loop-cell : goal.invariant-loop-cell
+invariant-loop-cell l = l.starts.items ≡ take l.cell (starts_of l.program.decls)

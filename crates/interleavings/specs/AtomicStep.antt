@@ -1,0 +1,246 @@
+-- Atomic steps: what each of the twelve kinds does to the one word that it touches and to the thread that makes it.
+-- Threads, cells and monitors are of any number here, and no program is named.
+use Rattle.std.specs.Prelude.{◌≡◌, ℕ, ◌+◌, ◌*◌, ◌/◌, ◌%◌, ◌==◌, Bool, true, false, if◌then◌else◌, not, List, [], ◌∷◌, ◌++◌, filter, Option, Some, None, IsSome, IsNone}
+use prog.Atomic.{either}
+use Rattle.interleavings.specs.declared.acts.Acts.{Acts}
+use Rattle.interleavings.specs.declared.acts.HeldTurn.{HeldTurn}
+use Rattle.interleavings.specs.declared.acts.OddLooks.{OddLooks}
+use Rattle.interleavings.specs.declared.acts.Phase.{Phase}
+use Rattle.interleavings.specs.declared.acts.Phase.TheVariants.{Idle, Loaded, InTurn, Numbered, Marked, Stored, Completed, Looked}
+use Rattle.interleavings.specs.declared.acts.Tally.{Tally}
+use Rattle.interleavings.specs.declared.event.Event.{Event}
+use Rattle.interleavings.specs.declared.event.Event.TheVariants as events
+use Rattle.interleavings.specs.declared.kind.Kind.{Kind}
+use Rattle.interleavings.specs.declared.kind.Kind.TheVariants as by
+
+-- the shared words: how many names were drawn; of each cell its value, its number and its turn; of each monitor its word
+pub data SharedWord : Type 0 where
+  Drawn : SharedWord
+  Value : ℕ → SharedWord
+  Number : ℕ → SharedWord
+  Turn : ℕ → SharedWord
+  Monitor : ℕ → SharedWord
+
+-- the word that a step touches, by the cell or the monitor
+abbrev pub word_of : Kind → ℕ → SharedWord
+word_of by.ValueLoad at = Value at
+word_of by.NumberLoad at = Number at
+word_of by.TakeTurn at = Turn at
+word_of by.NumberInTurn at = Number at
+word_of by.Mark at = Number at
+word_of by.Put at = Value at
+word_of by.Complete at = Number at
+word_of by.GiveTurn at = Turn at
+word_of by.Look at = Monitor at
+word_of by.Enter at = Monitor at
+word_of by.Leave at = Monitor at
+word_of by.Draw at = Drawn
+
+-- the phase in which a step is made
+abbrev pub Begins : Kind → ℕ → Phase → Type 0
+Begins by.ValueLoad at Idle = Unit {0}
+Begins by.NumberLoad at (Loaded cell value) = at ≡ cell
+Begins by.TakeTurn at Idle = Unit {0}
+Begins by.NumberInTurn at (InTurn cell) = at ≡ cell
+Begins by.Mark at (Numbered cell n) = at ≡ cell
+Begins by.Put at (Marked cell n) = at ≡ cell
+Begins by.Complete at (Stored cell n value) = at ≡ cell
+Begins by.GiveTurn at (Completed cell n value) = at ≡ cell
+Begins by.Look at Idle = Unit {0}
+Begins by.Enter at (Looked monitor turn) = at ≡ monitor
+Begins by.Leave at Idle = Unit {0}
+Begins by.Draw at Idle = Unit {0}
+Begins kind at phase = ⊥
+
+-- the turn for which the monitor is held, if it is
+abbrev pub held_turn : ℕ → List HeldTurn → Option ℕ
+held_turn monitor [] = None
+held_turn monitor (h ∷ held) = if h.mon == monitor then Some h.turn else held_turn monitor held
+
+-- a draw is made without a name, every other step with one; only a monitor that is held is left
+abbrev pub Suits : Kind → ℕ → Acts → Type 0
+Suits by.Draw at acts = IsNone acts.name
+Suits by.Leave at acts = IsSome acts.name × IsSome (held_turn at acts.held)
+Suits kind at acts = IsSome acts.name
+
+-- the step may be made
+pub record May (kind : Kind) (at : ℕ) (acts : Acts) : Type 0 where
+  pub begins : Begins kind at acts.phase
+  pub suits : Suits kind at acts
+
+-- half of the number that a writer found
+abbrev pub number_in : Phase → ℕ
+number_in (Numbered cell n) = n
+number_in (Marked cell n) = n
+number_in (Stored cell n value) = n
+number_in (Completed cell n value) = n
+number_in phase = 0
+
+-- how many turns a monitor had when it was seen free
+abbrev pub turn_in : Phase → ℕ
+turn_in (Looked monitor turn) = turn
+turn_in phase = 0
+
+-- a number of turns where there is one
+abbrev pub turn_or_zero : Option ℕ → ℕ
+turn_or_zero (Some turn) = turn
+turn_or_zero None = 0
+
+abbrev pub is_even : ℕ → Bool
+is_even word = word % 2 == 0
+
+-- the word after the step, by what it stores and the word that it met
+abbrev pub word_after : Kind → ℕ → ℕ → Acts → ℕ → ℕ
+word_after by.ValueLoad at value acts met = met
+word_after by.NumberLoad at value acts met = met
+word_after by.TakeTurn at value acts met = either (met == 0) 1 met
+word_after by.NumberInTurn at value acts met = met
+word_after by.Mark at value acts met = 2 * number_in acts.phase + 1
+word_after by.Put at value acts met = value
+word_after by.Complete at value acts met = 2 * number_in acts.phase + 2
+word_after by.GiveTurn at value acts met = 0
+word_after by.Look at value acts met = met
+word_after by.Enter at value acts met = either (met == 2 * turn_in acts.phase) (2 * turn_in acts.phase + 1) met
+word_after by.Leave at value acts met = 2 * turn_or_zero (held_turn at acts.held)
+word_after by.Draw at value acts met = met + 1
+
+-- the event of a read whose number was even, or none
+abbrev pub read_if : Bool → Phase → ℕ → Option Event
+read_if true (Loaded cell value) bound = Some (events.Read cell value bound)
+read_if even phase bound = None
+
+-- the event of a write that gives its turn back
+abbrev pub written : Phase → Option Event
+written (Completed cell n value) = Some (events.Write cell value (n + 1))
+written phase = None
+
+-- the event of an entry, where the monitor was still as it was seen
+abbrev pub entered_if : Bool → ℕ → ℕ → Option Event
+entered_if true monitor turn = Some (events.Enter monitor turn)
+entered_if false monitor turn = None
+
+-- the event that the step finishes, if it finishes one
+abbrev pub finished_by : Kind → ℕ → Acts → ℕ → Option Event
+finished_by by.NumberLoad at acts met = read_if (is_even met) acts.phase (met / 2)
+finished_by by.GiveTurn at acts met = written acts.phase
+finished_by by.Enter at acts met = entered_if (met == 2 * turn_in acts.phase) at (turn_in acts.phase + 1)
+finished_by by.Leave at acts met = Some (events.Exit at (turn_or_zero (held_turn at acts.held)))
+finished_by kind at acts met = None
+
+-- the events with one more at their end, if there is one
+abbrev pub with_event : List Event → Option Event → List Event
+with_event done None = done
+with_event done (Some event) = done ++ event ∷ []
+
+-- a phase where the test passes, or else another
+abbrev pub phase_if : Bool → Phase → Phase → Phase
+phase_if true phase other = phase
+phase_if false phase other = other
+
+-- the phase of a writer that has marked its cell
+abbrev pub marked : Phase → Phase
+marked (Numbered cell n) = Marked cell n
+marked phase = phase
+
+-- the phase of a writer that has stored this value
+abbrev pub stored : ℕ → Phase → Phase
+stored value (Marked cell n) = Stored cell n value
+stored value phase = phase
+
+-- the phase of a writer that has completed its number
+abbrev pub completed : Phase → Phase
+completed (Stored cell n value) = Completed cell n value
+completed phase = phase
+
+-- the phase after the step
+abbrev pub phase_after : Kind → ℕ → ℕ → Phase → ℕ → Phase
+phase_after by.ValueLoad at value phase met = Loaded at met
+phase_after by.NumberLoad at value phase met = phase_if (is_even met) Idle phase
+phase_after by.TakeTurn at value phase met = phase_if (met == 0) (InTurn at) phase
+phase_after by.NumberInTurn at value phase met = Numbered at (met / 2)
+phase_after by.Mark at value phase met = marked phase
+phase_after by.Put at value phase met = stored value phase
+phase_after by.Complete at value phase met = completed phase
+phase_after by.GiveTurn at value phase met = Idle
+phase_after by.Look at value phase met = phase_if (is_even met) (Looked at (met / 2)) phase
+phase_after by.Enter at value phase met = Idle
+phase_after by.Leave at value phase met = phase
+phase_after by.Draw at value phase met = phase
+
+-- the name after the step
+abbrev pub name_after : Kind → Option ℕ → ℕ → Option ℕ
+name_after by.Draw name met = Some met
+name_after kind name met = name
+
+-- the turns held, with one more where the test passes
+abbrev pub held_if : Bool → HeldTurn → List HeldTurn → List HeldTurn
+held_if true h held = h ∷ held
+held_if false h held = held
+
+-- the turns held after the step
+abbrev pub held_after : Kind → ℕ → Phase → List HeldTurn → ℕ → List HeldTurn
+held_after by.Enter at phase held met = held_if (met == 2 * turn_in phase) (record { mon = at; turn = turn_in phase + 1 }) held
+held_after by.Leave at phase held met = filter (λ h. not (h.mon == at)) held
+held_after kind at phase held met = held
+
+-- the row of odd looks with one more at this monitor; a look at another monitor begins a row of one
+abbrev pub one_more : ℕ → Option OddLooks → OddLooks
+one_more monitor None = record { mon = monitor; count = 1 }
+one_more monitor (Some row) = record { mon = monitor; count = if row.mon == monitor then row.count + 1 else 1 }
+
+-- the row after a look, by whether the word was even
+abbrev pub looked : Bool → ℕ → Option OddLooks → Option OddLooks
+looked true monitor row = None
+looked false monitor row = Some (one_more monitor row)
+
+-- the row of odd looks after the step
+abbrev pub looks_after : Kind → ℕ → Option OddLooks → ℕ → Option OddLooks
+looks_after by.Look at row met = looked (is_even met) at row
+looks_after kind at row met = row
+
+-- what the thread does after the step
+abbrev pub acts_after : Kind → ℕ → ℕ → Acts → ℕ → Acts
+acts_after kind at value acts met = record {
+  name = name_after kind acts.name met;
+  phase = phase_after kind at value acts.phase met;
+  events = with_event acts.events (finished_by kind at acts met);
+  held = held_after kind at acts.phase acts.held met;
+  looks = looks_after kind at acts.looks met;
+}
+
+-- the cell or the monitor of a step; a draw has none
+abbrev pub place_of : Kind → ℕ → Option ℕ
+place_of by.Draw at = None
+place_of kind at = Some at
+
+-- the word that a step loads or meets; a store tells its thread nothing, so it counts as 0
+abbrev pub word_told : Kind → ℕ → ℕ
+word_told by.Mark met = 0
+word_told by.Put met = 0
+word_told by.Complete met = 0
+word_told by.GiveTurn met = 0
+word_told by.Leave met = 0
+word_told kind met = met
+
+-- the count of steps and the last of them, after the step
+abbrev pub tally_after : Kind → ℕ → Tally → ℕ → Tally
+tally_after kind at tally met = record {
+  steps = tally.steps + 1;
+  last = Some (record { kind = kind; place = place_of kind at; word = word_told kind met });
+}
+
+-- a number of a cell that a thread has seen
+pub record SeenNumber : Type 0 where
+  pub cell : ℕ
+  pub number : ℕ
+
+-- the numbers seen, with one more where the word was even
+abbrev pub seen_if : Bool → SeenNumber → List SeenNumber → List SeenNumber
+seen_if true s seen = s ∷ seen
+seen_if false s seen = seen
+
+-- the numbers that the thread has seen after the step, the last of them first
+abbrev pub seen_after : Kind → ℕ → Phase → List SeenNumber → ℕ → List SeenNumber
+seen_after by.NumberLoad at phase seen met = seen_if (is_even met) (record { cell = at; number = met / 2 }) seen
+seen_after by.Complete at phase seen met = record { cell = at; number = number_in phase + 1 } ∷ seen
+seen_after kind at phase seen met = seen

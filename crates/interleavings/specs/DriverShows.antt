@@ -1,0 +1,148 @@
+-- The driver of `drive` beside the run that it shows. Only private clauses cite this module.
+use Rattle.std.specs.Prelude.{◌≡◌, ℕ, ◌+◌, ◌-◌, ◌*◌, ◌<◌, ◌≤◌, Bool, true, false, List, [], length, map, Option, Some, None}
+use Rattle.std.specs.List.{slice_index_or, range_with_len}
+use Rattle.stride_isa.specs.Listing.{Listing, cell_count, starts_of}
+use Rattle.sc_machine.specs.declared.stop.Stop.{Stop}
+use Rattle.sc_machine.specs.declared.stop.Stop.TheVariants.{Read, Write, Enter, Exit, Ended}
+use Rattle.sc_machine.specs.ThreadStep.{Thread, Stands, start_thread, now, settled, answered, stop_of}
+use Rattle.sc_machine.specs.ThreadRun.{NamesCell, TakesWord, state}
+use Rattle.sc_machine.specs.Schedule.{stopped, thread_numbers}
+use Rattle.interleavings.specs.declared.acts.OddLooks.{OddLooks}
+use Rattle.interleavings.specs.declared.core_words.Core.{Core}
+use Rattle.interleavings.specs.declared.driver.Driver.{Driver}
+use Rattle.interleavings.specs.declared.event.Event.{Event}
+use Rattle.interleavings.specs.declared.event.Event.TheVariants as events
+use Rattle.interleavings.specs.declared.runner.Runner.{Runner}
+use Rattle.interleavings.specs.declared.driver.Rest.{Rest}
+use Rattle.interleavings.specs.declared.driver.Rest.TheVariants as rests
+use Rattle.interleavings.specs.History.{start_state, after}
+use Rattle.interleavings.specs.Recording.{Drive, Setting, state_of, acts_of, thread_of, thread_after, advance_while, for_each, has_turn, is_loaded, is_exit, write_finished, read_finished, exits_made}
+use Rattle.interleavings.specs.CoreShows.{ShowsState, HasWholeRow}
+
+-- the thread that a runner runs
+abbrev pub thread_in : Runner → Thread
+thread_in runner = state runner.run runner.printed.items
+
+-- it runs this thread of the program with this fuel, and stands where it says, with room for what it may print
+pub record IsRunner (p : Listing) (fuel t : ℕ) (runner : Runner) : Type 0 where
+  pub program : runner.run.program ≡ p
+  pub thread : runner.run.thread ≡ t
+  pub fuel_is : runner.run.fuel ≡ fuel
+  pub stands : now p t (thread_in runner) ≡ Stands runner.stop
+  pub cell : NamesCell p runner.stop
+  pub room : 21 * (fuel - runner.run.made) ≤ runner.printed.spare
+
+-- whether a stop is an end
+abbrev pub is_end : Stop → Bool
+is_end (Read cell) = false
+is_end (Write cell value) = false
+is_end (Enter monitor) = false
+is_end (Exit monitor) = false
+is_end (Ended end) = true
+
+-- the word that an event gives its thread, where it is a read
+abbrev pub word_in : Event → Option ℕ
+word_in (events.Read cell value bound) = Some value
+word_in (events.Write cell value number) = None
+word_in (events.Enter monitor turn) = None
+word_in (events.Exit monitor turn) = None
+
+-- the event finishes the instruction at the stop
+abbrev pub SuitsStop : Stop → Option Event → Type 0
+SuitsStop stop None = Unit {0}
+SuitsStop stop (Some event) = TakesWord stop (word_in event)
+
+-- the runner runs the same thread and is at this state of it
+pub record IsAt (old new : Runner) (s : Thread) : Type 0 where
+  pub runner : IsRunner old.run.program old.run.fuel old.run.thread new
+  pub thread : thread_in new ≡ s
+
+-- the runner's thread was given a word at its shared instruction, and went on to where it stands then
+abbrev pub IsAnsweredBy : Runner → Runner → ℕ → Type 0
+IsAnsweredBy old new word = IsAt old new (settled old.run.program old.run.fuel old.run.thread (answered old.run.program old.run.fuel old.run.thread word (thread_in old)))
+
+-- the runner's thread was stopped at its shared instruction
+abbrev pub IsGivenUp : Runner → Runner → Type 0
+IsGivenUp old new = IsAt old new (stopped (thread_in old))
+
+-- the setting of a run of this runner
+abbrev pub setting_at : Runner → ℕ → Setting
+setting_at runner patience = record { program = runner.run.program; fuel = runner.run.fuel; patience = patience }
+
+-- the runner's thread is as it is after a step of its own
+abbrev pub GoesOn : Runner → Runner → Option Event → ℕ → Option OddLooks → Type 0
+GoesOn old new finished patience looks = IsAt old new (thread_after (setting_at old patience) old.run.thread finished looks (thread_in old))
+
+-- the driver is one of this setting, and shows this run
+pub record Shows (g : Setting) (driver : Driver) (d : Drive) : Type 0 where
+  pub program : driver.program.now ≡ g.program
+  pub fuel : driver.fuel ≡ g.fuel
+  pub patience : driver.patience ≡ g.patience
+  pub few : length g.program.threads ≤ 16
+  pub count : length driver.runners.items ≡ length g.program.threads
+  pub each : (t : ℕ) (runner : Runner) → t < length driver.runners.items → IsRunner g.program g.fuel t (slice_index_or driver.runners.items t runner)
+  pub threads : d.threads ≡ map thread_in driver.runners.items
+  pub whole : HasWholeRow driver.core
+  pub cells : driver.core.layout.cells ≡ cell_count g.program.decls
+  pub monitors : driver.core.layout.monitors ≡ length g.program.monitors
+  pub people : length driver.core.people.items ≡ length g.program.threads
+  pub state : ShowsState driver.core (state_of g d.steps)
+
+-- the driver shows a run that may make n more steps
+pub record CanGo (driver : Driver) (n : ℕ) : Type 0 where
+  pub setting : Setting
+  pub drive : Drive
+  pub shows : Shows setting driver drive
+  pub few : length drive.steps + n ≤ 1073741824
+
+-- the driver shows what this makes of each run that it showed
+abbrev pub Makes : (Setting → Drive → Drive) → Driver → Driver → Type 0
+Makes f old new = (g : Setting) (d : Drive) → Shows g old d → Shows g new (f g d)
+
+-- whether a thread has this left
+abbrev pub is_left : Rest → Setting → ℕ → Drive → Bool
+is_left rests.Write g t d = has_turn (acts_of g d.steps t).phase
+is_left rests.Read g t d = is_loaded (acts_of g d.steps t).phase
+is_left rests.Exits g t d = is_exit (stop_of g.program t (thread_of d t))
+
+-- how many steps it takes at most
+abbrev pub most_steps : Rest → ℕ → ℕ
+most_steps rests.Write fuel = 5
+most_steps rests.Read fuel = 1
+most_steps rests.Exits fuel = fuel
+
+-- the run after a thread has finished it
+abbrev pub finished : Rest → Setting → ℕ → Drive → Drive
+finished rest g t d = advance_while (is_left rest g t) g t (most_steps rest g.fuel) d
+
+-- the run behind an order, before the threads that have not ended are stopped
+abbrev pub settled_all : Setting → Drive → Drive
+settled_all g d =
+    let ts = thread_numbers g.program in
+    for_each exits_made g ts (for_each read_finished g ts (for_each write_finished g ts d))
+
+-- the driver's core may let so many threads draw their names
+pub record CanDraw (core : Core) (threads : ℕ) : Type 0 where
+  pub whole : HasWholeRow core
+  pub people : length core.people.items ≡ threads
+  pub few : threads ≤ 16
+  pub starts : List ℕ
+  pub shows : ShowsState core (after starts [])
+
+-- the core at the start of a program
+pub record IsStartCore (p : Listing) (core : Core) : Type 0 where
+  pub whole : HasWholeRow core
+  pub cells : core.layout.cells ≡ cell_count p.decls
+  pub monitors : core.layout.monitors ≡ length p.monitors
+  pub people : length core.people.items ≡ length p.threads
+  pub shows : ShowsState core (start_state (starts_of p.decls))
+
+-- these are the runners of the first threads, each settled from its start
+pub record AreRunners (p : Listing) (fuel count : ℕ) (runners : List Runner) : Type 0 where
+  pub long : length runners ≡ count
+  pub settles : map thread_in runners ≡ map (λ t. settled p fuel t start_thread) (range_with_len 0 count)
+  pub each : (t : ℕ) (d : Runner) → t < count → IsRunner p fuel t (slice_index_or runners t d)
+
+-- each runner stands where it says
+abbrev pub AreStanding : List Runner → Type 0
+AreStanding runners = (t : ℕ) (d : Runner) → t < length runners → IsRunner (slice_index_or runners t d).run.program (slice_index_or runners t d).run.fuel (slice_index_or runners t d).run.thread (slice_index_or runners t d)

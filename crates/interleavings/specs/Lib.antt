@@ -1,0 +1,11 @@
+pub mod AtomicStep
+pub mod Bounded
+pub mod CoreShows
+pub mod DrivenSeen
+pub mod DriverShows
+pub mod Events
+pub mod History
+pub mod Laws
+pub mod Layout
+pub mod Recording
+pub mod TraceLists

@@ -1,0 +1,36 @@
+//! Recording one atomic step at a time.
+//!
+//! Owns: events and log entries (`Events`), the twelve kinds of atomic steps (`AtomicStep`), histories of such steps
+//! (`History`), the recording that an order gives (`Recording`), and the law that its steps are a history (`Laws`).
+//! The layer above may rely on this: `drive` gives exactly that recording, and an event of `Traces` is seen by `at` alone.
+#![tactic(auto)]
+
+mod acting;
+mod acts;
+mod core_words;
+mod driven;
+mod driver;
+mod driving;
+mod event;
+mod kind;
+mod laws;
+mod layout;
+mod next_step;
+mod results;
+mod runner;
+mod starting;
+mod stepping;
+mod traces;
+
+pub use acts::{Acts, HeldTurn, LastStep, OddLooks, Phase, Tally};
+pub use driven::{DriveError, Driven};
+pub use driving::drive;
+pub use event::{Event, LogEntry, entry_of};
+pub use kind::Kind;
+pub use laws::driven_is_a_history;
+pub use traces::{Place, Traces};
+
+#[cfg(test)]
+mod tests;
+#[cfg(test)]
+mod trace_tests;

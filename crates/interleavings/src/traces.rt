@@ -1,0 +1,147 @@
+//! `Traces`: the events of each thread.
+ghost use Rattle.std.specs.Prelude.{◌≡◌, ◌+◌, ◌<◌, ◌≤◌, [], ◌∷◌, ◌++◌, length, map, replicate, slice_index, slice_set, IfOk, OnOk, OnErr};
+ghost use Rattle.std.specs.List.{slice_index_or};
+ghost use Rattle.stride_isa.specs.Listing.{starts_of};
+ghost use Rattle.interleavings.specs.TraceLists.{IsInRange, events_of, no_events as none, with_event_of};
+
+use crate::event::Event;
+use std::alloc::Global;
+use std::marker::Model;
+use std::sync::ledger::Ledger;
+use stride_base::{NoMemory, Steps};
+use stride_isa::Checked;
+
+/// A thread and the position of an event among that thread's events, both from 0.
+#[derive(Clone, Copy, Debug, PartialEq, Eq)]
+pub struct Place {
+    pub thread: u32,
+    pub place: u32,
+}
+
+/// The finished events of each thread of a program, with the starting values of its cells and the number of its monitors.
+/// An event is seen by `at` alone, which counts the look.
+#[derive(Drop)]
+pub struct Traces {
+    events: Vec<Vec<Event>>,
+    starts: Vec<u64>,
+    monitors: u32,
+}
+
+impl Model for Traces {
+    ghost use Rattle.std.specs.Prelude.{map};
+    ghost use Rattle.stride_isa.specs.Listing.{starts_of};
+    ghost use Rattle.interleavings.specs.TraceLists.{TraceLists, IsTraces};
+
+    ghost Value = { TraceLists };
+
+    ghost view = { λ t. record { events = map (λ events. events.items) t.events.items; starts = t.starts.items; monitors = t.monitors } };
+
+    ghost invariant = { λ t. IsTraces (record { events = map (λ events. events.items) t.events.items; starts = t.starts.items; monitors = t.monitors }) };
+}
+
+fn empty_lists(alloc: Global, count: u32) -> Result<Vec<Vec<Event>>, NoMemory>
+    ensures { IfOk result (λ lists. map (λ events. events.items) lists.items ≡ replicate count []) }
+{
+    let mut lists = Vec::new(alloc);
+    for _ in 0..count {
+        lists.push(Vec::new(alloc))?;
+    }
+    Ok(lists)
+}
+
+fn starting_values(alloc: Global, program: &Checked) -> Result<Vec<u64>, NoMemory>
+    ensures { IfOk result (λ starts. starts.items ≡ starts_of program.now.decls) }
+{
+    let mut starts = Vec::new(alloc);
+    for cell in 0..program.cells() {
+        starts.push(program.start_of(cell))?;
+    }
+    Ok(starts)
+}
+
+fn push_to(lists: &mut Vec<Vec<Event>>, at: u32, event: Event) -> Result<(), NoMemory>
+    requires { at < length lists.old.items }
+    ensures ok { OnOk result (map (λ events. events.items) lists.new.items
+        ≡ slice_set (map (λ events. events.items) lists.old.items) at (slice_index_or (map (λ events. events.items) lists.old.items) at [] ++ event ∷ [])) }
+    ensures err { OnErr result (map (λ events. events.items) lists.new.items ≡ map (λ events. events.items) lists.old.items) }
+{
+    lists[at as usize].push(event)?;
+    Ok(())
+}
+
+impl Traces {
+    /// No events of the program's threads yet.
+    pub fn new(alloc: Global, program: &Checked) -> Result<Traces, NoMemory>
+        ensures { IfOk result (λ traces. traces ≡ none program.now) }
+    {
+        program.is_sound();
+        Ok(Traces {
+            events: empty_lists(alloc, program.threads())?,
+            starts: starting_values(alloc, program)?,
+            monitors: program.monitors(),
+        })
+    }
+
+    /// Appends an event of a thread. Where memory runs out nothing has changed.
+    pub fn push(&mut self, thread: u32, event: Event) -> Result<(), NoMemory>
+        requires thread { thread < length self.old.events }
+        requires range { IsInRange self.old event }
+        requires few { length (events_of self.old thread) < 1000000 }
+        ensures ok { OnOk result (self.new ≡ with_event_of self.old thread event) }
+        ensures err { OnErr result (self.new ≡ self.old) }
+    {
+        push_to(&mut self.events, thread, event)
+    }
+
+    /// How many threads there are.
+    pub fn threads(&self) -> u32
+        ensures count { result ≡ length self.now.events }
+        ensures small { result ≤ 16 }
+    {
+        self.events.len() as u32
+    }
+
+    /// How many cells there are.
+    pub fn cells(&self) -> u32
+        ensures count { result ≡ length self.now.starts }
+        ensures small { result ≤ 256 }
+    {
+        self.starts.len() as u32
+    }
+
+    /// How many monitors there are.
+    pub fn monitors(&self) -> u32
+        ensures count { result ≡ self.now.monitors }
+        ensures small { result ≤ 64 }
+    {
+        self.monitors
+    }
+
+    /// The starting value of a cell.
+    pub fn start_of(&self, cell: u32) -> u64
+        requires { cell < length self.now.starts }
+        ensures { result ≡ slice_index self.now.starts cell }
+    {
+        self.starts[cell as usize]
+    }
+
+    /// How many events a thread has.
+    pub fn count(&self, thread: u32) -> u32
+        requires { thread < length self.now.events }
+        ensures count { result ≡ length (events_of self.now thread) }
+        ensures small { result ≤ 1000000 }
+    {
+        self.events[thread as usize].len() as u32
+    }
+
+    /// The event of a thread at a place, which is one look. No other call gives an event.
+    pub fn at<L: Ledger>(&self, thread: u32, place: u32, steps: &mut Steps<L>) -> Event
+        requires thread { thread < length self.now.events }
+        requires place { place < length (events_of self.now thread) }
+        ensures event { result ≡ slice_index_or (events_of self.now thread) place result }
+        ensures look { steps.new ≡ steps.old + 1 }
+    {
+        steps.tick();
+        self.events[thread as usize][place as usize]
+    }
+}

@@ -1,0 +1,28 @@
+-- Words and bytes have one answer at most.
+use Rattle.std.proofs.Common.{◌≡◌, ◌∙◌, ℕ, Bool, true, false, List, Option, Some, None, Result, Ok, Err, sym, ap, length, nat_lt}
+use Rattle.std.specs.Bool.{MatchBool}
+use Rattle.stride_isa.specs.Laws.{OneVerdict}
+use Rattle.stride_isa.specs.Listing.{Listing}
+use Rattle.assembler.specs.Programs.{LineFault, spelled}
+use Rattle.stride_cli.specs.declared.command.Command.{Command}
+use Rattle.stride_cli.specs.Answers.{Answer, AnswersText, AnswersInput, AnswersBy, judged, input_limit, text_of}
+use Rattle.stride_cli.specs.Commands.{command_named}
+use Rattle.stride_cli.specs.Laws.{OneAnswer}
+
+one_text : OneVerdict → (command : Command) (bytes : List ℕ) (s : Result Listing LineFault) (answer other : Answer) → AnswersText command bytes s answer → AnswersText command bytes s other → answer ≡ other
+one_text one command bytes (Err fault) answer other is same = is ∙ sym same
+one_text one command bytes (Ok p) answer other is same =
+    is.1.1 ∙ ap (judged command bytes p) (one p is.0 same.0 is.1.0 same.1.0) ∙ sym same.1.1
+
+by_length : OneVerdict → (too_long : Bool) (command : Command) (bytes : List ℕ) (refusal answer other : Answer) → MatchBool too_long (answer ≡ refusal) (AnswersInput command bytes answer) → MatchBool too_long (other ≡ refusal) (AnswersInput command bytes other) → answer ≡ other
+by_length one true command bytes refusal answer other is same = is ∙ sym same
+by_length one false command bytes refusal answer other is same =
+    one_text one command bytes (spelled (text_of command bytes)) answer other is same
+
+by_command : OneVerdict → (named : Option Command) (bytes : List ℕ) (answer other : Answer) → AnswersBy named bytes answer → AnswersBy named bytes other → answer ≡ other
+by_command one None bytes answer other is same = is ∙ sym same
+by_command one (Some command) bytes answer other is same =
+    by_length one (nat_lt input_limit (length bytes)) command bytes _ answer other is same
+
+pub one_answer : OneVerdict → OneAnswer
+one_answer one = λ words bytes answer other is same. by_command one (command_named words) bytes answer other is same

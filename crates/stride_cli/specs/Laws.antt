@@ -1,0 +1,7 @@
+-- What holds of the answers to words and bytes.
+use Rattle.std.specs.Prelude.{◌≡◌, ℕ, List}
+use Rattle.stride_cli.specs.Answers.{Answer, IsAnswer}
+
+-- words and bytes have one answer at most
+abbrev pub OneAnswer : Type 0
+OneAnswer = (words : List (List ℕ)) (bytes : List ℕ) (answer other : Answer) → IsAnswer words bytes answer → IsAnswer words bytes other → answer ≡ other

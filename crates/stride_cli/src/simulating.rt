@@ -1,0 +1,30 @@
+//! `sim`: a program recorded by an order of atomic steps.
+ghost use Rattle.std.specs.Prelude.{◌≤◌, length};
+ghost use Rattle.stride_cli.specs.Answers.{Gives};
+ghost use Rattle.stride_cli.specs.declared.command.Command.TheVariants.{Sim};
+
+use crate::ordered::read_input;
+use crate::refusal::Refusal;
+use crate::report::put_logs;
+use crate::settings::{FUEL, PATIENCE};
+use interleavings::drive;
+use std::alloc::Global;
+use stride_base::List;
+
+/// The logs of the recording, where the bytes are a program with an order that names its threads.
+pub fn sim(alloc: Global, bytes: &[u8]) -> Result<List<u8>, Refusal>
+    requires { length bytes.now ≤ 268435456 }
+    ensures { Gives result Sim bytes.now }
+{
+    let input = read_input(alloc, bytes)?;
+    let driven = drive(
+        alloc,
+        &input.program,
+        FUEL,
+        PATIENCE,
+        input.order.as_slice(),
+    )?;
+    let mut report = List::new(alloc);
+    put_logs(alloc, &mut report, driven.logs.as_slice())?;
+    Ok(report)
+}

@@ -1,0 +1,20 @@
+-- Laws of validity and of the first fault.
+use Rattle.std.specs.Prelude.{◌≡◌, ℕ, Option}
+use Rattle.stride_isa.specs.Faults.{HasNameFault, HasDepthFault, IsFirstFault, Fault, IsVerdict}
+use Rattle.stride_isa.specs.Listing.{Listing}
+use Rattle.stride_isa.specs.Validity.{IsValid}
+use Rattle.stride_isa.specs.declared.check_error.CheckKind.{CheckKind}
+
+-- a valid program has no fault of either rule
+abbrev pub ValidHasNoFault : Type 0
+ValidHasNoFault =
+    (p : Listing) → IsValid p → (thread at : ℕ) (kind : CheckKind) → (HasNameFault p thread at kind → ⊥) × (HasDepthFault p thread at kind → ⊥)
+
+-- a program has one first fault at most
+abbrev pub OneFirstFault : Type 0
+OneFirstFault =
+    (p : Listing) (thread at : ℕ) (kind : CheckKind) (other_thread other_at : ℕ) (other_kind : CheckKind) → IsFirstFault p thread at kind → IsFirstFault p other_thread other_at other_kind → (thread ≡ other_thread) × (at ≡ other_at) × (kind ≡ other_kind)
+
+-- a program has one verdict at most
+abbrev pub OneVerdict : Type 0
+OneVerdict = (p : Listing) (verdict other : Option Fault) → IsVerdict p verdict → IsVerdict p other → verdict ≡ other

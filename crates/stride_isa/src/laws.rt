@@ -1,0 +1,17 @@
+//! Laws of validity and of the first fault, each as the contract of a function that does nothing.
+ghost use Rattle.stride_isa.specs.Laws.{ValidHasNoFault, OneFirstFault, OneVerdict};
+
+/// A valid program has no fault.
+pub fn valid_has_no_fault()
+    ensures { ValidHasNoFault }
+{}
+
+/// A program has one first fault at most: one thread, position and kind.
+pub fn one_first_fault()
+    ensures { OneFirstFault }
+{}
+
+/// A program has one verdict at most: it is valid, or has one first fault.
+pub fn one_verdict()
+    ensures { OneVerdict }
+{}
