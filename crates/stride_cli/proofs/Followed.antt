@@ -14,7 +14,7 @@ use Rattle.stride_cli.specs.declared.command.Command.TheVariants.{Follow}
 use Rattle.stride_cli.specs.declared.status.Status.TheVariants.{NotEnabled}
 use Rattle.stride_cli.specs.declared.table.Table.{Table}
 use Rattle.stride_cli.specs.Accepting.{IsInput}
-use Rattle.stride_cli.specs.Answers.{Answer, AnswersInput, AnswersText, done, followed, fuel, played, refused, with_order}
+use Rattle.stride_cli.specs.Answers.{Answer, AnswersInput, AnswersText, done, followed, fuel, played, order_of, refused, with_order}
 use Rattle.stride_cli.specs.Playing.{PlayedTo, RefusedAt, thread_of}
 use Rattle.stride_cli.specs.Reports.{ends_section, follow_report}
 
@@ -31,7 +31,7 @@ answered p order m runs =
 -- the answer to an accepted program with an order
 accepts : (bytes : List ℕ) (p : Listing) (order : List ℕ) (answer : Answer) → IsInput bytes p order → followed p order ≡ answer → AnswersInput Follow bytes answer
 accepts bytes p order answer input is =
-    let Q : Result Listing LineFault → Type 0 = λ s. AnswersText Follow bytes s answer in
+    let Q : Result Listing LineFault → Type 0 = λ s. AnswersText s (λ q. with_order (followed q) (order_of bytes)) answer in
     subst Q (sym input.program) (None, (input.valid, sym is ∙ sym (ap (with_order (followed p)) input.ordered)))
 
 pub followed_done : (bytes : List ℕ) (p : Listing) (order : List ℕ) (first last : Table) (ends : List End) (report : List ℕ) → IsInput bytes p order → first.program.now ≡ p → first.fuel ≡ fuel → (end : PlayedTo first last order) → ends ≡ map end_of (map thread_of last.players.items) → report ≡ (codes "transcript\n" ++ last.transcript.items) ++ ends_section ends → AnswersInput Follow bytes (done report)

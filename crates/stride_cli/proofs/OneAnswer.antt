@@ -5,19 +5,25 @@ use Rattle.stride_isa.specs.Laws.{OneVerdict}
 use Rattle.stride_isa.specs.Listing.{Listing}
 use Rattle.assembler.specs.Programs.{LineFault, spelled}
 use Rattle.stride_cli.specs.declared.command.Command.{Command}
-use Rattle.stride_cli.specs.Answers.{Answer, AnswersText, AnswersInput, AnswersBy, judged, input_limit, text_of}
+use Rattle.stride_cli.specs.declared.command.Command.TheVariants.{Check, Follow, Sim, Show}
+use Rattle.stride_cli.specs.Answers.{Answer, AnswersText, AnswersInput, AnswersBy, judged, input_limit, program_part}
 use Rattle.stride_cli.specs.Commands.{command_named}
 use Rattle.stride_cli.specs.Laws.{OneAnswer}
 
-one_text : OneVerdict → (command : Command) (bytes : List ℕ) (s : Result Listing LineFault) (answer other : Answer) → AnswersText command bytes s answer → AnswersText command bytes s other → answer ≡ other
-one_text one command bytes (Err fault) answer other is same = is ∙ sym same
-one_text one command bytes (Ok p) answer other is same =
-    is.1.1 ∙ ap (judged command bytes p) (one p is.0 same.0 is.1.0 same.1.0) ∙ sym same.1.1
+one_text : OneVerdict → (s : Result Listing LineFault) (accepted : Listing → Answer) (answer other : Answer) → AnswersText s accepted answer → AnswersText s accepted other → answer ≡ other
+one_text one (Err fault) accepted answer other is same = is ∙ sym same
+one_text one (Ok p) accepted answer other is same =
+    is.1.1 ∙ ap (λ verdict. judged verdict (accepted p)) (one p is.0 same.0 is.1.0 same.1.0) ∙ sym same.1.1
+
+one_input : OneVerdict → (command : Command) (bytes : List ℕ) (answer other : Answer) → AnswersInput command bytes answer → AnswersInput command bytes other → answer ≡ other
+one_input one Check bytes answer other is same = one_text one (spelled bytes) _ answer other is same
+one_input one Follow bytes answer other is same = one_text one (spelled (program_part bytes)) _ answer other is same
+one_input one Sim bytes answer other is same = one_text one (spelled (program_part bytes)) _ answer other is same
+one_input one Show bytes answer other is same = is ∙ sym same
 
 by_length : OneVerdict → (too_long : Bool) (command : Command) (bytes : List ℕ) (refusal answer other : Answer) → MatchBool too_long (answer ≡ refusal) (AnswersInput command bytes answer) → MatchBool too_long (other ≡ refusal) (AnswersInput command bytes other) → answer ≡ other
 by_length one true command bytes refusal answer other is same = is ∙ sym same
-by_length one false command bytes refusal answer other is same =
-    one_text one command bytes (spelled (text_of command bytes)) answer other is same
+by_length one false command bytes refusal answer other is same = one_input one command bytes answer other is same
 
 by_command : OneVerdict → (named : Option Command) (bytes : List ℕ) (answer other : Answer) → AnswersBy named bytes answer → AnswersBy named bytes other → answer ≡ other
 by_command one None bytes answer other is same = is ∙ sym same

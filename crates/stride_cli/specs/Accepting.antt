@@ -4,16 +4,15 @@ use Rattle.stride_isa.specs.Listing.{Listing}
 use Rattle.stride_isa.specs.Validity.{IsValid}
 use Rattle.assembler.specs.Orders.{order_limit}
 use Rattle.assembler.specs.Programs.{LineFault, spelled}
-use Rattle.stride_cli.specs.declared.command.Command.{Command}
 use Rattle.stride_cli.specs.declared.refusal.Refusal.{Refusal}
 use Rattle.stride_cli.specs.declared.refusal.Refusal.TheVariants as refusals
-use Rattle.stride_cli.specs.Answers.{AnswersText, order_of, program_part, refused, status_of}
+use Rattle.stride_cli.specs.Answers.{Answer, AnswersText, order_of, program_part, refused, status_of}
 
--- the program is the one that is spelled, and valid; or every command answers with the refusal
+-- the program is the one that is spelled, and valid; or the refusal is the answer, whatever is answered to a valid program
 abbrev pub Accepts : Result Listing LineFault → Result Listing Refusal → Type 0
 Accepts spelled (Ok p) = (spelled ≡ Ok p) × IsValid p
 Accepts spelled (Err refusals.NoMemory) = Unit {0}
-Accepts spelled (Err refusal) = (command : Command) (bytes : List ℕ) → AnswersText command bytes spelled (refused (status_of refusal))
+Accepts spelled (Err refusal) = (accepted : Listing → Answer) → AnswersText spelled accepted (refused (status_of refusal))
 
 -- the input is this accepted program with this order
 pub record IsInput (bytes : List ℕ) (p : Listing) (order : List ℕ) : Type 0 where

@@ -8,19 +8,21 @@ use Rattle.stride_isa.specs.Listing.{Listing}
 use Rattle.sc_machine.specs.Machine.{Machine}
 use Rattle.sc_machine.specs.Schedule.{refused_place, replayed}
 use Rattle.interleavings.specs.Recording.{Recording, Setting, driven, stranger}
+use Rattle.log_format.specs.Bundles.{Bundled}
+use Rattle.log_format.specs.Reading.{reading, Refusal as FormatRefusal}
 use Rattle.assembler.specs.Canonical.{canonical}
 use Rattle.assembler.specs.Orders.{order_spelled}
 use Rattle.assembler.specs.Programs.{LineFault, spelled}
 use Rattle.assembler.specs.Splits.{split}
 use Rattle.stride_cli.specs.declared.command.Command.{Command}
-use Rattle.stride_cli.specs.declared.command.Command.TheVariants.{Check, Follow, Sim}
+use Rattle.stride_cli.specs.declared.command.Command.TheVariants.{Check, Follow, Sim, Show}
 use Rattle.stride_cli.specs.declared.status.Status.{Status}
-use Rattle.stride_cli.specs.declared.status.Status.TheVariants.{Done, Usage, ReadFault, TooLong, Program, NotEnabled, WriteFault, NoMemory}
+use Rattle.stride_cli.specs.declared.status.Status.TheVariants.{Done, Usage, ReadFault, TooLong, Program, Bundle, NotEnabled, WriteFault, NoMemory}
 use Rattle.stride_cli.specs.declared.status.ProgramFault.TheVariants.{Text, Code}
 use Rattle.stride_cli.specs.declared.refusal.Refusal.{Refusal}
 use Rattle.stride_cli.specs.declared.refusal.Refusal.TheVariants as refusals
 use Rattle.stride_cli.specs.Commands.{command_named}
-use Rattle.stride_cli.specs.Reports.{follow_report, logs_section}
+use Rattle.stride_cli.specs.Reports.{follow_report, logs_section, show_report}
 
 -- how a command ends, and what it puts
 pub record Answer : Type 0 where
@@ -46,6 +48,7 @@ code_of Usage = 1
 code_of ReadFault = 2
 code_of TooLong = 3
 code_of (Program fault) = 4
+code_of (Bundle kind offset) = 5
 code_of (NotEnabled place) = 8
 code_of WriteFault = 9
 code_of NoMemory = 10
@@ -79,12 +82,6 @@ program_part bytes = take (split bytes).program_end bytes
 abbrev pub order_part : List ℕ → List ℕ
 order_part bytes = drop (split bytes).order_start bytes
 
--- the bytes of a command's input that are the text of a program
-abbrev pub text_of : Command → List ℕ → List ℕ
-text_of Check bytes = bytes
-text_of Follow bytes = program_part bytes
-text_of Sim bytes = program_part bytes
-
 -- what `follow` answers to an accepted program with an order
 abbrev pub followed : Listing → List ℕ → Answer
 followed p order = played (replayed p fuel order) (refused_place p fuel order)
@@ -111,25 +108,27 @@ with_order answer (Ok order) = answer order
 abbrev pub order_of : List ℕ → Result (List ℕ) LineFault
 order_of bytes = order_spelled (split bytes).order_line (order_part bytes)
 
--- what a command answers to an accepted program and its whole input
-abbrev pub accepted : Command → List ℕ → Listing → Answer
-accepted Check bytes p = done (canonical p)
-accepted Follow bytes p = with_order (followed p) (order_of bytes)
-accepted Sim bytes p = with_order (simulated p) (order_of bytes)
+-- the answer to a program, by the verdict on it: the refusal of its first fault, or what is answered to it where it is valid
+abbrev pub judged : Option Fault → Answer → Answer
+judged (Some fault) accepted = refused_code fault
+judged None accepted = accepted
 
--- what a command answers to a program, by the verdict on it: its first fault, or none
-abbrev pub judged : Command → List ℕ → Listing → Option Fault → Answer
-judged command bytes p (Some fault) = refused_code fault
-judged command bytes p None = accepted command bytes p
+-- the answer to a text that spells this program, or this first fault; the function gives what is answered to a valid program
+abbrev pub AnswersText : Result Listing LineFault → (Listing → Answer) → Answer → Type 0
+AnswersText (Err fault) accepted answer = answer ≡ refused_text fault
+AnswersText (Ok p) accepted answer = (verdict : Option Fault) × (IsVerdict p verdict × (answer ≡ judged verdict (accepted p)))
 
--- the answer of a command, by what the text of its program spells
-abbrev pub AnswersText : Command → List ℕ → Result Listing LineFault → Answer → Type 0
-AnswersText command bytes (Err fault) answer = answer ≡ refused_text fault
-AnswersText command bytes (Ok p) answer = (verdict : Option Fault) × (IsVerdict p verdict × (answer ≡ judged command bytes p verdict))
+-- what `show` answers to what the bytes read as
+abbrev pub shown : Result Bundled FormatRefusal → Answer
+shown (Ok bundle) = done (show_report bundle)
+shown (Err refusal) = refused (Bundle refusal.kind refusal.offset)
 
 -- the answer of a command to an input within the limit
 abbrev pub AnswersInput : Command → List ℕ → Answer → Type 0
-AnswersInput command bytes answer = AnswersText command bytes (spelled (text_of command bytes)) answer
+AnswersInput Check bytes answer = AnswersText (spelled bytes) (λ p. done (canonical p)) answer
+AnswersInput Follow bytes answer = AnswersText (spelled (program_part bytes)) (λ p. with_order (followed p) (order_of bytes)) answer
+AnswersInput Sim bytes answer = AnswersText (spelled (program_part bytes)) (λ p. with_order (simulated p) (order_of bytes)) answer
+AnswersInput Show bytes answer = answer ≡ shown (reading bytes)
 
 -- the answer of the command that the words name, if they name one, to an input of any length
 abbrev pub AnswersBy : Option Command → List ℕ → Answer → Type 0
@@ -178,6 +177,7 @@ OnRefusal given fact = fact
 -- the status of a refusal of a command that has read its input
 abbrev pub status_of : Refusal → Status
 status_of (refusals.Program fault) = Program fault
+status_of (refusals.Bundle kind offset) = Bundle kind offset
 status_of (refusals.NotEnabled place) = NotEnabled place
 status_of refusals.NoMemory = NoMemory
 

@@ -5,10 +5,12 @@ use Rattle.assembler.specs.declared.asm_error.AsmError.{AsmError}
 use Rattle.assembler.specs.declared.asm_error.AsmError.TheVariants as texts
 use Rattle.interleavings.specs.declared.driven.DriveError.{DriveError}
 use Rattle.interleavings.specs.declared.driven.DriveError.TheVariants as drives
+use Rattle.log_format.specs.declared.format_error.FormatError.{FormatError}
+use Rattle.log_format.specs.declared.format_error.FormatError.TheVariants as formats
 use Rattle.stride_cli.specs.declared.playing.PlayError.{PlayError}
 use Rattle.stride_cli.specs.declared.playing.PlayError.TheVariants as plays
 use Rattle.stride_cli.specs.declared.refusal.Refusal.{Refusal}
-use Rattle.stride_cli.specs.declared.refusal.Refusal.TheVariants.{Program, NotEnabled, NoMemory}
+use Rattle.stride_cli.specs.declared.refusal.Refusal.TheVariants.{Program, Bundle, NotEnabled, NoMemory}
 use Rattle.stride_cli.specs.declared.status.ProgramFault.TheVariants.{Text, Code}
 
 -- a refused text or order
@@ -30,3 +32,8 @@ of_play plays.NoMemory = NoMemory
 abbrev pub of_drive : DriveError → Refusal
 of_drive (drives.NoSuchThread place) = NotEnabled place
 of_drive drives.NoMemory = NoMemory
+
+-- a refused bundle
+abbrev pub of_format : FormatError → Refusal
+of_format (formats.Bad kind offset) = Bundle kind offset
+of_format formats.NoMemory = NoMemory

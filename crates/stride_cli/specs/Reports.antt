@@ -1,7 +1,8 @@
 -- The sections of reports, each a function of one value.
-use Rattle.std.specs.Prelude.{ℕ, ◌+◌, List, [], ◌∷◌, ◌++◌, codes, decimal}
+use Rattle.std.specs.Prelude.{ℕ, ◌+◌, List, [], ◌∷◌, ◌++◌, codes, decimal, length}
 use Rattle.interleavings.specs.declared.event.LogEntry.{LogEntry}
 use Rattle.interleavings.specs.declared.event.LogEntry.TheVariants.{Read, Write, Enter}
+use Rattle.log_format.specs.Bundles.{Bundled}
 use Rattle.sc_machine.specs.declared.end.End.{End}
 use Rattle.sc_machine.specs.declared.end.End.TheVariants.{Halted, Trapped, OutOfSteps, Stopped}
 use Rattle.sc_machine.specs.declared.trap.Trap.{Trap}
@@ -61,3 +62,15 @@ logs_lines thread (log ∷ logs) = log_lines thread log ++ logs_lines (thread + 
 -- the section `logs`: what each thread logged, in order of number
 abbrev pub logs_section : List (List LogEntry) → List ℕ
 logs_section logs = codes "logs" ++ (10 ∷ logs_lines 0 logs)
+
+-- the sections `threads` and `fuel`: how many threads there are, and how many instructions each may make
+abbrev pub counts_section : ℕ → ℕ → List ℕ
+counts_section threads fuel = codes "threads " ++ (decimal threads ++ (10 ∷ (codes "fuel " ++ (decimal fuel ++ 10 ∷ []))))
+
+-- the section `text`: a text as it is
+abbrev pub text_section : List ℕ → List ℕ
+text_section text = codes "text" ++ (10 ∷ text)
+
+-- the report of `show`: the number of threads, the fuel, the logs and the text of a bundle
+abbrev pub show_report : Bundled → List ℕ
+show_report bundle = counts_section (length bundle.logs) bundle.fuel ++ (logs_section bundle.logs ++ text_section bundle.text)

@@ -11,6 +11,8 @@ pub enum Command {
     Follow,
     /// Records a program by an order of atomic steps, on one thread.
     Sim,
+    /// Shows what a bundle holds.
+    Show,
 }
 
 fn command_called(name: &str) -> Option<Command>
@@ -20,6 +22,7 @@ fn command_called(name: &str) -> Option<Command>
         "check" => Some(Command::Check),
         "follow" => Some(Command::Follow),
         "sim" => Some(Command::Sim),
+        "show" => Some(Command::Show),
         _ => None,
     }
 }

@@ -8,6 +8,7 @@ use crate::checking::check_text;
 use crate::command::{Command, command_of};
 use crate::following::follow;
 use crate::refusal::Refusal;
+use crate::showing::show;
 use crate::simulating::sim;
 use crate::status::Status;
 use std::alloc::Global;
@@ -26,6 +27,7 @@ fn report_of(alloc: Global, command: Command, bytes: &[u8]) -> Result<List<u8>, 
         Command::Check => check_text(alloc, bytes),
         Command::Follow => follow(alloc, bytes),
         Command::Sim => sim(alloc, bytes),
+        Command::Show => show(alloc, bytes),
     }
 }
 

@@ -19,6 +19,7 @@ mod playing;
 mod refusal;
 mod report;
 mod settings;
+mod showing;
 mod simulating;
 mod starting;
 mod status;

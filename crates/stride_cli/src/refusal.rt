@@ -5,6 +5,7 @@ use crate::playing::PlayError;
 use crate::status::{ProgramFault, Status};
 use assembler::AsmError;
 use interleavings::DriveError;
+use log_format::{FormatError, FormatKind};
 use stride_base::NoMemory;
 use stride_isa::CheckError;
 
@@ -13,6 +14,8 @@ use stride_isa::CheckError;
 pub enum Refusal {
     /// The program or the order is refused.
     Program { fault: ProgramFault },
+    /// The bytes are no bundle: what is wrong, at this offset.
+    Bundle { kind: FormatKind, offset: u64 },
     /// The member of the order at this place can take no turn, or names no thread.
     NotEnabled { place: u32 },
     /// Memory ran out.
@@ -28,6 +31,7 @@ impl Refusal {
     {
         match self {
             Refusal::Program { fault } => Status::Program { fault },
+            Refusal::Bundle { kind, offset } => Status::Bundle { kind, offset },
             Refusal::NotEnabled { place } => Status::NotEnabled { place },
             Refusal::NoMemory => Status::NoMemory,
         }
@@ -98,6 +102,20 @@ impl From<DriveError> for Refusal {
         match error {
             DriveError::NoSuchThread { place } => Refusal::NotEnabled { place },
             DriveError::NoMemory => Refusal::NoMemory,
+        }
+    }
+}
+
+impl From<FormatError> for Refusal {
+    ghost use Rattle.std.specs.Prelude.{◌≡◌};
+    ghost use Rattle.stride_cli.specs.Refusals.{of_format};
+
+    ghost from_gives = { λ error refusal. refusal ≡ of_format error };
+
+    fn from(error: FormatError) -> Refusal {
+        match error {
+            FormatError::Bad { kind, offset } => Refusal::Bundle { kind, offset },
+            FormatError::NoMemory => Refusal::NoMemory,
         }
     }
 }

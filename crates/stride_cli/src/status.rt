@@ -2,6 +2,7 @@
 ghost use Rattle.std.specs.Prelude.{◌≡◌};
 
 use assembler::AsmKind;
+use log_format::FormatKind;
 use std::fmt;
 use stride_isa::CheckKind;
 use thiserror::Error;
@@ -45,6 +46,16 @@ fn words_of_check(kind: &CheckKind) -> &'static str {
     }
 }
 
+fn words_of_format(kind: &FormatKind) -> &'static str {
+    match kind {
+        FormatKind::Short => "the bundle ends too soon",
+        FormatKind::BadMagic => "not the beginning of a bundle",
+        FormatKind::BadTag => "not an entry of a log",
+        FormatKind::BadCount => "a number out of its range",
+        FormatKind::Long => "bytes behind the end of the bundle",
+    }
+}
+
 /// How a command ends. `code` gives the exit status of the process.
 #[derive(Debug, Drop)]
 pub enum Status {
@@ -58,6 +69,8 @@ pub enum Status {
     TooLong,
     /// The program or the order is refused.
     Program { fault: ProgramFault },
+    /// The input is no bundle: what is wrong, at this offset.
+    Bundle { kind: FormatKind, offset: u64 },
     /// The thread that the order names at this place, counted from 0, is not there, or cannot take a turn.
     NotEnabled { place: u32 },
     /// The report could not be written.
@@ -79,6 +92,7 @@ impl Status {
             Status::ReadFault => 2,
             Status::TooLong => 3,
             Status::Program { fault: _ } => 4,
+            Status::Bundle { kind: _, offset: _ } => 5,
             Status::NotEnabled { place: _ } => 8,
             Status::WriteFault => 9,
             Status::NoMemory => 10,
@@ -90,10 +104,14 @@ impl fmt::Display for Status {
     fn fmt<W: fmt::Write>(&self, f: &mut fmt::Formatter<W>) -> fmt::Result {
         match self {
             Status::Done => write!(f, "done"),
-            Status::Usage => write!(f, "usage: stride check|follow|sim < INPUT"),
+            Status::Usage => write!(f, "usage: stride check|follow|sim|show < INPUT"),
             Status::ReadFault => write!(f, "the input could not be read"),
             Status::TooLong => write!(f, "the input has more than 268435456 bytes"),
             Status::Program { fault } => write!(f, "{fault}"),
+            Status::Bundle { kind, offset } => {
+                let words = words_of_format(kind);
+                write!(f, "offset {offset}: {words}")
+            }
             Status::NotEnabled { place } => {
                 write!(
                     f,

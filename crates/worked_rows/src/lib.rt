@@ -1,6 +1,6 @@
 //! Tests that cross crates, and nothing else. Nothing stands on this crate.
 //!
-//! Rows of whole commands over devices in memory, worked by hand (`follow_rows`, `check_rows`, `sim_rows`), and two plain, slow programs
+//! Rows of whole commands over devices in memory, worked by hand (`follow_rows`, `check_rows`, `sim_rows`, `show_rows`), and two plain, slow programs
 //! that are written from the language's description: `plain_reader` judges texts and `plain_machine` plays orders, and what
 //! they tell is compared with what the program tells (`reading_rows`, `playing_rows`, `drawn_rows`).
 #![tactic(auto)]
@@ -21,5 +21,7 @@ mod playing_rows;
 mod reading_rows;
 #[cfg(test)]
 mod rows;
+#[cfg(test)]
+mod show_rows;
 #[cfg(test)]
 mod sim_rows;

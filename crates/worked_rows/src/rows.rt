@@ -2,6 +2,7 @@
 ghost use Rattle.std.specs.Prelude.{◌≡◌, ◌<◌};
 
 use assembler::AsmKind;
+use log_format::FormatKind;
 use std::alloc::Global;
 use std::marker::Brand;
 use std::process::Abort;
@@ -24,6 +25,8 @@ pub(crate) enum Ending {
     Text(AsmKind, u32),
     /// A program, refused at this thread and instruction.
     Code(CheckKind, u32, u32),
+    /// A bundle, refused at this offset.
+    Bundle(FormatKind, u64),
     /// An order, refused at this place.
     NotEnabled(u32),
     WriteFault,
@@ -47,6 +50,7 @@ impl Ending {
                     instruction,
                 },
             } => Ending::Code(*kind, *thread, *instruction),
+            Status::Bundle { kind, offset } => Ending::Bundle(*kind, *offset),
             Status::NotEnabled { place } => Ending::NotEnabled(*place),
             Status::WriteFault => Ending::WriteFault,
             Status::NoMemory => Ending::NoMemory,
@@ -61,6 +65,7 @@ impl Ending {
             Ending::ReadFault => 2,
             Ending::TooLong => 3,
             Ending::Text(_, _) | Ending::Code(_, _, _) => 4,
+            Ending::Bundle(_, _) => 5,
             Ending::NotEnabled(_) => 8,
             Ending::WriteFault => 9,
             Ending::NoMemory => 10,

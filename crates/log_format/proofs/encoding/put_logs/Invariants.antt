@@ -1,0 +1,9 @@
+use Rattle.std.proofs.Common.{◌≡◌, ◌++◌, take}
+use Rattle.std.specs.List.{flat_map}
+use Rattle.log_format.specs.Bundles.{lists_of}
+use Rattle.log_format.specs.Spelling.{log_bytes}
+use Rattle.log_format.proofs.encoding.put_logs.Given as goal
+
+-- written so far are the logs up to here
+abbrev pub invariant-loop-log : goal.invariant-loop-log
+invariant-loop-log l = l.out.items ≡ l.fn.out.items ++ flat_map log_bytes (lists_of (take l.log-index l.logs))

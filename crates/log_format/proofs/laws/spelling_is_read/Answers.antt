@@ -1,0 +1,5 @@
+use Rattle.log_format.proofs.RoundTrip.{spelling_is_read as law}
+use Rattle.log_format.proofs.laws.spelling_is_read.Goals as goal
+
+pub returns : goal.returns
+returns c = law

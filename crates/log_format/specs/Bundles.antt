@@ -1,0 +1,46 @@
+-- What contracts see of a bundle, and which bundles the format can spell.
+use Rattle.std.specs.Prelude.{ℕ, ◌<◌, ◌≤◌, ◌^◌, List, length, get_or, map}
+use Rattle.std.specs.List.{AllByRecursion}
+use Rattle.interleavings.specs.declared.event.LogEntry.{LogEntry}
+use Rattle.interleavings.specs.declared.event.LogEntry.TheVariants.{Read, Write, Enter}
+use Rattle.stride_base.specs.Listed.{Listed}
+use Rattle.log_format.specs.declared.bundle.Bundle.{Bundle}
+
+-- a bundle without where it lies in memory
+pub record Bundled : Type 0 where
+  pub fuel : ℕ
+  pub text : List ℕ
+  pub logs : List (List LogEntry)
+
+-- the entries of each list
+abbrev pub lists_of : List (Listed LogEntry) → List (List LogEntry)
+lists_of logs = map (λ log. log.items) logs
+
+-- a bundle as contracts see it
+abbrev pub bundled : Bundle → Bundled
+bundled bundle = record { fuel = bundle.fuel; text = bundle.text.items; logs = lists_of bundle.logs.items }
+
+-- the ranges of the format: the bound on the instructions, the length of the text, the number of threads, and the
+-- number of entries of each
+pub record IsWithin (bundle : Bundled) : Type 0 where
+  pub some_fuel : 1 ≤ bundle.fuel
+  pub fuel : bundle.fuel ≤ 1000000
+  pub text : length bundle.text < 2 ^ 32
+  pub threads : length bundle.logs ≤ 16
+  pub counts : AllByRecursion (λ log. length log ≤ bundle.fuel) bundle.logs
+
+-- each number of the entry is one of its type, which holds of every entry of a program
+abbrev pub FitsItsType : LogEntry → Type 0
+FitsItsType (Read value bound) = (value < 2 ^ 64) × (bound < 2 ^ 32)
+FitsItsType (Write number) = number < 2 ^ 32
+FitsItsType (Enter turn) = turn < 2 ^ 32
+
+-- each number of the list is a byte
+abbrev pub IsBytes : List ℕ → Type 0
+IsBytes bytes = (i : ℕ) → get_or bytes i 0 < 256
+
+-- a bundle that the format can spell
+pub record IsInRange (bundle : Bundled) : Type 0 where
+  pub within : IsWithin bundle
+  pub bytes : IsBytes bundle.text
+  pub entries : AllByRecursion (AllByRecursion FitsItsType) bundle.logs

@@ -1,0 +1,22 @@
+//! What holds of the definitions of bundles together, each law as the contract of a function that does nothing.
+ghost use Rattle.log_format.specs.Laws.{SpellingIsRead, ReadIsSpelled, NoSpellingBeginsAnother, CutIsShort};
+
+/// The spelling of a bundle reads as this bundle.
+pub fn spelling_is_read()
+    ensures { SpellingIsRead }
+{}
+
+/// Bytes that read as a bundle are the one spelling of it.
+pub fn read_is_spelled()
+    ensures { ReadIsSpelled }
+{}
+
+/// No spelling of a bundle is the beginning of another.
+pub fn no_spelling_begins_another()
+    ensures { NoSpellingBeginsAnother }
+{}
+
+/// A spelling that is cut off within is short, at the length that is left of it.
+pub fn cut_is_short()
+    ensures { CutIsShort }
+{}

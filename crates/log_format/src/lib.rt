@@ -1,0 +1,26 @@
+//! Bundles as bytes.
+//!
+//! Owns: what a bundle is seen as and which bundles can be spelled (`Bundles`), the one spelling of each (`Spelling`),
+//! what bytes read as, with the first refusal (`Reading`), and the laws of both (`Laws`).
+//! The layer above may rely on this: `decode` gives the bundle that the bytes spell, or the first refusal, and `encode`
+//! gives the spelling.
+#![tactic(auto)]
+
+mod bundle;
+mod decoding;
+mod encoding;
+mod fault;
+mod format_error;
+mod laws;
+mod logs;
+mod numbers;
+mod parts;
+
+pub use bundle::Bundle;
+pub use decoding::decode;
+pub use encoding::encode;
+pub use format_error::{FormatError, FormatKind};
+pub use laws::{cut_is_short, no_spelling_begins_another, read_is_spelled, spelling_is_read};
+
+#[cfg(test)]
+mod tests;
