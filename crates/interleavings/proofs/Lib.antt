@@ -5,6 +5,7 @@ pub mod Begins
 pub mod Ending
 pub mod Examples
 pub mod FewLogs
+pub mod FollowingExamples
 pub mod Going
 pub mod Happening
 pub mod HeldFlags

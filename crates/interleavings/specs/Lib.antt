@@ -4,6 +4,7 @@ pub mod CoreShows
 pub mod DrivenSeen
 pub mod DriverShows
 pub mod Events
+pub mod Following
 pub mod History
 pub mod Laws
 pub mod Layout
