@@ -1,0 +1,2 @@
+pub mod Rerunning
+pub mod Shows

@@ -1,0 +1,169 @@
+-- What the code keeps and answers, beside what following says. Only private clauses cite this module.
+use Rattle.std.specs.Prelude.{◌≡◌, ℕ, ◌+◌, ◌-◌, ◌*◌, ◌<◌, ◌≤◌, List, [], ◌∷◌, ◌++◌, length, map, drop, replicate, Option, Some, None, Result, Ok, Err, slice_index, slice_set}
+use Rattle.stride_isa.specs.Listing.{Listing, cell_count, starts_of}
+use Rattle.sc_machine.specs.declared.stop.Stop.{Stop}
+use Rattle.sc_machine.specs.declared.stop.Stop.TheVariants as stops
+use Rattle.sc_machine.specs.ThreadStep.{Thread, Stands, now, settled, answered, end_of}
+use Rattle.sc_machine.specs.ThreadRun.{IsShared, NamesCell, state}
+use Rattle.sc_machine.specs.Schedule.{stopped}
+use Rattle.interleavings.specs.declared.event.Event.{Event}
+use Rattle.interleavings.specs.declared.event.Event.TheVariants as events
+use Rattle.interleavings.specs.declared.event.LogEntry.{LogEntry}
+use Rattle.interleavings.specs.Events.{read_of}
+use Rattle.interleavings.specs.Recording.{word_given}
+use Rattle.interleavings.specs.TraceLists.{TraceLists, events_of}
+use Rattle.interleavings.specs.Following.{Met, Makes, Over, Off, Divergence, Followed, follow, follow_all, follow_all_from, follow_from, place_after, turns_after}
+use Rattle.thread_rerun.specs.Rerunning.{Again, rerun_seen}
+use Rattle.thread_rerun.specs.declared.outcome.Rerun.{Rerun}
+use Rattle.thread_rerun.specs.declared.follower.Follower.{Follower}
+use Rattle.thread_rerun.specs.declared.meeting.Met.{Met as Told}
+use Rattle.thread_rerun.specs.declared.meeting.Met.TheVariants as told
+use Rattle.thread_rerun.specs.declared.rerun_error.RerunError.{RerunError}
+use Rattle.thread_rerun.specs.declared.rerun_error.RerunError.TheVariants.{Diverges, NoMemory}
+
+-- what is met, as the code tells it
+abbrev pub seen_met : Met → Told
+seen_met (Makes event) = told.Makes event
+seen_met Over = told.Over
+seen_met Off = told.Off
+
+-- an exit names one of 64 monitors
+abbrev pub HasMonitor : Stop → Type 0
+HasMonitor (stops.Exit monitor) = monitor < 64
+HasMonitor stop = Unit {0}
+
+-- an entry names one of 64 monitors
+abbrev pub MonitorBelow : Event → Type 0
+MonitorBelow (events.Enter monitor turn) = monitor < 64
+MonitorBelow event = Unit {0}
+
+-- the word that an event gives its thread
+abbrev pub word_in : Event → Option ℕ
+word_in (events.Read cell value bound) = Some value
+word_in event = None
+
+-- the event is one of this shared instruction
+abbrev pub Suits : Stop → Event → Type 0
+Suits (stops.Read at) (events.Read cell value bound) = cell ≡ at
+Suits (stops.Write at word) (events.Write cell value number) = (cell ≡ at) × (value ≡ word)
+Suits (stops.Enter at) (events.Enter monitor turn) = monitor ≡ at
+Suits (stops.Exit at) (events.Exit monitor turn) = monitor ≡ at
+Suits stop event = ⊥
+
+-- an event that is met is one of the shared instruction
+abbrev pub Fits : Stop → Told → Type 0
+Fits stop (told.Makes event) = Suits stop event
+Fits stop met = Unit {0}
+
+-- the thread that a follower runs
+abbrev pub thread_in : Follower → Thread
+thread_in f = state f.run f.printed.items
+
+-- it runs this thread of the program with this fuel, and stands where it says, with room for what it may print
+pub record IsFollower (p : Listing) (fuel t : ℕ) (f : Follower) : Type 0 where
+  pub program : f.run.program ≡ p
+  pub thread : f.run.thread ≡ t
+  pub fuel_is : f.run.fuel ≡ fuel
+  pub stands : now p t (thread_in f) ≡ Stands f.stop
+  pub cell : NamesCell p f.stop
+  pub room : 21 * (fuel - f.run.made) ≤ f.printed.spare
+  pub fuel_left : IsShared f.stop → f.run.made < fuel
+
+-- the turn of the last entry into each monitor
+abbrev pub turns_in : Follower → ℕ → ℕ
+turns_in f m = slice_index f.turns m
+
+-- no monitor was entered yet
+abbrev pub no_turns : ℕ → ℕ
+no_turns m = 0
+
+-- the follower has gone on behind this event
+pub record IsGone (old new : Follower) (event : Event) : Type 0 where
+  pub follower : IsFollower old.run.program old.run.fuel old.run.thread new
+  pub thread : thread_in new ≡ settled old.run.program old.run.fuel old.run.thread (answered old.run.program old.run.fuel old.run.thread (word_given (read_of event)) (thread_in old))
+  pub place : new.place ≡ place_after event old.place
+  pub turns : turns_in new ≡ turns_after event (turns_in old)
+  pub made : old.run.made < new.run.made
+
+-- the traces are of a program with these cells and monitors
+pub record IsOfProgram (p : Listing) (traces : TraceLists) : Type 0 where
+  pub cells : length traces.starts ≡ cell_count p.decls
+  pub monitors : traces.monitors ≡ length p.monitors
+
+-- the traces with these events of a thread besides
+abbrev pub with_events : TraceLists → ℕ → List Event → TraceLists
+with_events traces t es = record traces { events = slice_set traces.events t (events_of traces t ++ es) }
+
+-- what following comes to from where the follower stands
+abbrev pub following : Follower → List LogEntry → ℕ → Result Followed ℕ
+following f log t = follow_from f.run.program f.run.fuel t log (f.run.fuel + 1) f.place (turns_in f) (thread_in f)
+
+-- the thread was run to its end, and its events were appended
+pub record IsOver (old new : Follower) (log : List LogEntry) (t : ℕ) (before after : TraceLists) : Type 0 where
+  pub followed : Followed
+  pub is_followed : following old log t ≡ Ok followed
+  pub traces : after ≡ with_events before t followed.events
+  pub thread : stopped (thread_in new) ≡ followed.thread
+  pub follower : IsFollower old.run.program old.run.fuel t new
+
+-- what running a thread again comes to
+abbrev pub Comes : Follower → Follower → List LogEntry → ℕ → TraceLists → TraceLists → Result (Unit {0}) RerunError → Type 0
+Comes old new log t before after (Ok done) = IsOver old new log t before after
+Comes old new log t before after (Err (Diverges thread place)) = (thread ≡ t) × (following old log t ≡ Err place)
+Comes old new log t before after (Err NoMemory) = Unit {0}
+
+-- these events before what following comes to
+abbrev pub events_before : List Event → Result Followed ℕ → Result Followed ℕ
+events_before es (Ok rest) = Ok (record rest { events = es ++ rest.events })
+events_before es (Err place) = Err place
+
+-- half way: what following comes to is the events so far before what it comes to from here, for more events than there is
+-- fuel for
+pub record Going (old half : Follower) (log : List LogEntry) (t : ℕ) (before now : TraceLists) : Type 0 where
+  pub follower : IsFollower old.run.program old.run.fuel t half
+  pub place : half.place ≤ half.run.made
+  pub low : half.place ≤ old.run.fuel
+  pub n : ℕ
+  pub enough : old.run.fuel - half.run.made < n
+  pub so_far : List Event
+  pub traces : now ≡ with_events before t so_far
+  pub few : length (events_of before t) + length so_far ≤ half.run.made
+  pub whole : following old log t ≡ events_before so_far (follow_from old.run.program old.run.fuel t log n half.place (turns_in half) (thread_in half))
+
+-- the traces are of the program, and this thread has no events yet
+pub record HasRoomFor (p : Listing) (t : ℕ) (traces : TraceLists) : Type 0 where
+  pub of_program : IsOfProgram p traces
+  pub inside : t < length traces.events
+  pub none_yet : events_of traces t ≡ []
+
+-- what one thread did is appended
+pub record IsAppended (p : Listing) (fuel t : ℕ) (log : List LogEntry) (old new : Again) : Type 0 where
+  pub followed : Followed
+  pub is_followed : follow p fuel t log ≡ Ok followed
+  pub traces : new.traces ≡ with_events old.traces t followed.events
+  pub outputs : new.outputs ≡ old.outputs ++ followed.thread.out ∷ []
+  pub ends : new.ends ≡ old.ends ++ end_of followed.thread ∷ []
+
+-- what running one thread again comes to
+abbrev pub ThreadComes : Listing → ℕ → ℕ → List LogEntry → Rerun → Rerun → Result (Unit {0}) RerunError → Type 0
+ThreadComes p fuel t log old new (Ok done) = IsAppended p fuel t log (rerun_seen old) (rerun_seen new)
+ThreadComes p fuel t log old new (Err (Diverges thread place)) = (thread ≡ t) × (follow p fuel t log ≡ Err place)
+ThreadComes p fuel t log old new (Err NoMemory) = Unit {0}
+
+-- these threads before what following comes to for the others
+abbrev pub threads_before : List Followed → Result (List Followed) Divergence → Result (List Followed) Divergence
+threads_before done (Ok others) = Ok (done ++ others)
+threads_before done (Err divergence) = Err divergence
+
+-- the traces of these threads, and of so many that have no events yet
+abbrev pub traces_at : Listing → List Followed → ℕ → TraceLists
+traces_at p done left = record { events = map (λ (f : Followed). f.events) done ++ replicate left []; starts = starts_of p.decls; monitors = length p.monitors }
+
+-- the threads below this number were run again
+pub record AtThread (p : Listing) (fuel : ℕ) (logs : List (List LogEntry)) (t : ℕ) (r : Rerun) : Type 0 where
+  pub done : List Followed
+  pub count : length done ≡ t
+  pub traces : r.traces ≡ traces_at p done (length p.threads - t)
+  pub outputs : (rerun_seen r).outputs ≡ map (λ (f : Followed). f.thread.out) done
+  pub ends : r.ends.items ≡ map (λ (f : Followed). end_of f.thread) done
+  pub whole : follow_all p fuel logs ≡ threads_before done (follow_all_from p fuel t (length p.threads - t) (drop t logs))
