@@ -20,7 +20,10 @@ use Rattle.interleavings.specs.Recording.{Drive, Setting, state_of, acts_of, thr
 use Rattle.interleavings.proofs.HeldFlags.{flags_after, HoldsAtExit, IsAnsweredAs, stands_answered, settled-held}
 use Rattle.interleavings.proofs.StepPeople.{step_here, step_elsewhere}
 use Rattle.interleavings.proofs.OddNumbers.{Marks, odd_after}
-use Rattle.interleavings.proofs.InPlace.{AreInPlace, IsInPlaceAfter, may_next, in_place_after}
+use Rattle.interleavings.proofs.Finishes.{IsFinished, step_finishes}
+use Rattle.interleavings.proofs.InPlace.{AreInPlace, IsInPlaceAfter, may_next, in_place_after, turn_at_exit}
+use Rattle.interleavings.proofs.Walked.{HasWalked, no_turns, thread_after-walked}
+use Rattle.interleavings.proofs.Walks.{turns_behind}
 
 -- what a thread has done and is doing fits where it stands
 abbrev pub IsThreadInPlace : Setting → ℕ → Thread → Acts → Type 0
@@ -30,17 +33,22 @@ IsThreadInPlace g t s acts = AreInPlace g.patience (stop_of g.program t s) s.hel
 abbrev pub IsMarked : Setting → List Step → ℕ → Type 0
 IsMarked g steps cell = (t : ℕ) × (t < length g.program.threads) × Marks cell (acts_of g steps t).phase
 
--- the steps of a run are a history of the program's threads, each thread is in place, and each number that is odd was
--- made so by a writer that has not completed it
+-- a thread came to where it stands by what it has done
+abbrev pub HasThreadWalked : Setting → ℕ → Thread → Acts → Type 0
+HasThreadWalked g t s acts = HasWalked g t s acts.events acts.held
+
+-- the steps of a run are a history of the program's threads, each thread is in place and came there by its events, and
+-- each number that is odd was made so by a writer that has not completed it
 pub record IsRun (g : Setting) (d : Drive) : Type 0 where
   pub lawful : IsHistory (starts_of g.program.decls) d.steps
   pub members : (s : Step) → Among s d.steps → s.who < length g.program.threads
   pub count : length d.threads ≡ length g.program.threads
   pub in_place : (t : ℕ) → t < length g.program.threads → IsThreadInPlace g t (thread_of d t) (acts_of g d.steps t)
+  pub walked : (t : ℕ) → t < length g.program.threads → HasThreadWalked g t (thread_of d t) (acts_of g d.steps t)
   pub odd : (cell : ℕ) → is_even ((state_of g d.steps).words (Number cell)) ≡ false → IsMarked g d.steps cell
 
 -- at a shared instruction the answer sets the flags as that says, and an exit is of a monitor that is held
-answered_flags : (stop : Stop) (g : Setting) (t : ℕ) (s : Thread) → IsShared stop → stop_of g.program t s ≡ stop → (done_held (op_at g.program t s.pc) s.held ≡ flags_after stop s.held) × HoldsAtExit stop s.held
+pub answered_flags : (stop : Stop) (g : Setting) (t : ℕ) (s : Thread) → IsShared stop → stop_of g.program t s ≡ stop → (done_held (op_at g.program t s.pc) s.held ≡ flags_after stop s.held) × HoldsAtExit stop s.held
 answered_flags stop g t s shared e = by_stop stop shared (subst (λ (x : Stop). IsAnsweredAs x (op_at g.program t s.pc) s.held) e (stands_answered g.program t s))
   where
     by_stop : (x : Stop) → IsShared x → IsAnsweredAs x (op_at g.program t s.pc) s.held → (done_held (op_at g.program t s.pc) s.held ≡ flags_after x s.held) × HoldsAtExit x s.held
@@ -119,6 +127,33 @@ module _ (g : Setting) (t : ℕ) (stop : Stop) (d : Drive) (there : t < length g
         (run.in_place u below)
   ]
 
+  -- the thread came to where it stands after its step
+  stepped-walked_here : HasThreadWalked g t stepped_thread (acts_of g (stepped g t stop d).steps t)
+  unfolding stepped_thread
+  stepped-walked_here =
+      let s = thread_of d t in
+      let old = acts_of g d.steps t in
+      let step = next_step t stop old.phase in
+      let st = state_of g d.steps in
+      let met = st.words (word_of step.kind step.at) in
+      let new = acts_after step.kind step.at step.value old met in
+      let holds = turn_at_exit stop s.held old.held (answered_flags stop g t s shared e).1 in_place_here.turns in
+      let finishes = step_finishes stop old.name old.phase old.events old.held old.looks (turns_behind old.events no_turns) met shared in_place_here.fits holds (run.walked t there).entered in
+      let walked : HasThreadWalked g t (thread_after g t (finished_in st step) new.looks s) new =
+      thread_after-walked g t s old.events old.held new.held (finished_in st step) new.looks (subst IsShared (sym e) shared) (run.walked t there)
+      (subst (λ (x : Stop). IsFinished x (turns_behind old.events no_turns) old.held new.held (finished_in st step)) (sym e) finishes) in
+      subst (λ (a : Acts). HasThreadWalked g t (thread_after g t (finished_in st step) a.looks s) a) (sym (step_here g step d.steps)) walked
+
+  -- and so did each thread
+  stepped-walked : (u : ℕ) → u < length g.program.threads → HasThreadWalked g u (thread_of (stepped g t stop d) u) (acts_of g (stepped g t stop d).steps u)
+  unfolding stepped_thread
+  stepped-walked u below = elim (cases_eq u t) [
+    | inl same ↦ subst (λ (x : ℕ). HasThreadWalked g x (thread_of (stepped g t stop d) x) (acts_of g (stepped g t stop d).steps x)) (sym same)
+        (subst (λ (s : Thread). HasThreadWalked g t s (acts_of g (stepped g t stop d).steps t)) (sym (get_or-set_same d.threads t stepped_thread start_thread (omega (arith, run.count)))) stepped-walked_here)
+    | inr other ↦ subst (λ (s : Thread). HasThreadWalked g u s (acts_of g (stepped g t stop d).steps u)) (sym (get_or-set_other d.threads t u stepped_thread start_thread other))
+        (subst (λ (a : Acts). HasThreadWalked g u (thread_of d u) a) (sym (step_elsewhere g (next_step t stop (acts_of g d.steps t).phase) d.steps u other)) (run.walked u below))
+  ]
+
   -- each number that is odd was made so by a writer that has not completed it
   stepped-odd : (cell : ℕ) → is_even ((state_of g (stepped g t stop d).steps).words (Number cell)) ≡ false → IsMarked g (stepped g t stop d).steps cell
   unfolding after
@@ -139,6 +174,7 @@ module _ (g : Setting) (t : ℕ) (stop : Stop) (d : Drive) (there : t < length g
     members = stepped-members;
     count = length-set d.threads t _ ∙ run.count;
     in_place = stepped-in_place;
+    walked = stepped-walked;
     odd = stepped-odd;
   }
 

@@ -7,22 +7,27 @@ use Rattle.std.specs.Prelude.{IsSome}
 use Rattle.stride_isa.specs.Listing.{starts_of}
 use Rattle.sc_machine.specs.ThreadStep.{Thread, start_thread, holds, settled, stop_of}
 use Rattle.interleavings.specs.declared.acts.Acts.{Acts}
+use Rattle.interleavings.specs.declared.acts.HeldTurn.{HeldTurn}
 use Rattle.interleavings.specs.declared.acts.Phase.{Phase}
 use Rattle.interleavings.specs.declared.acts.Phase.TheVariants.{Idle}
+use Rattle.interleavings.specs.declared.event.Event.{Event}
 use Rattle.interleavings.specs.declared.kind.Kind.TheVariants as by
 use Rattle.interleavings.specs.AtomicStep.{Number, May, is_even, acts_after}
 use Rattle.interleavings.specs.History.{Step, newcomer, after, IsHistory}
 use Rattle.interleavings.specs.Recording.{Setting, state_of, acts_of, thread_of, gives_up, draws, begun, Among}
 use Rattle.interleavings.proofs.HeldFlags.{settled-held, none_held}
 use Rattle.interleavings.proofs.InPlace.{IsPhaseAt, patient_at}
-use Rattle.interleavings.proofs.Advances.{IsThreadInPlace, IsRun}
+use Rattle.interleavings.proofs.Advances.{IsThreadInPlace, HasThreadWalked, IsRun}
 use Rattle.interleavings.proofs.StepPeople.{step_here, step_elsewhere}
+use Rattle.interleavings.proofs.Walked.{HasWalked, start-walked}
 
 -- a thread that has drawn its name and done nothing else
 record IsNamed (acts : Acts) : Type 0 where
   named : IsSome acts.name
   idle : acts.phase ≡ Idle
   calm : acts.looks ≡ None
+  nothing : acts.events ≡ []
+  free : acts.held ≡ []
 
 -- the threads below i have drawn their names, and nothing else was done
 record HaveDrawn (g : Setting) (i : ℕ) (steps : List Step) : Type 0 where
@@ -38,7 +43,7 @@ draw t = record { who = t; kind = by.Draw; at = 0; value = 0 }
 
 -- a newcomer that draws is named
 named_newcomer : (acts : Acts) (met : ℕ) → newcomer.acts ≡ acts → IsNamed (acts_after by.Draw 0 0 acts met)
-named_newcomer acts met e = subst (λ (a : Acts). IsNamed (acts_after by.Draw 0 0 a met)) e (record { named = refl; idle = refl; calm = refl })
+named_newcomer acts met e = subst (λ (a : Acts). IsNamed (acts_after by.Draw 0 0 a met)) e (record { named = refl; idle = refl; calm = refl; nothing = refl; free = refl })
 
 -- the next thread draws
 draws_next : (g : Setting) (i : ℕ) (steps : List Step) → i < length g.program.threads → HaveDrawn g i steps → HaveDrawn g (i + 1) (draw i ∷ steps)
@@ -80,6 +85,13 @@ named-in_place g t s acts flags h = record {
   patient = patient_at g.patience (stop_of g.program t s) acts.looks (ap (λ x. gives_up g.patience x) h.calm);
 }
 
+-- it came to where it stands by no event
+named-walked : (g : Setting) (t : ℕ) (s : Thread) (acts : Acts) → s ≡ settled g.program g.fuel t start_thread → IsNamed acts → HasThreadWalked g t s acts
+named-walked g t s acts start h =
+    subst (λ (x : Thread). HasThreadWalked g t x acts) (sym start)
+    (subst (λ (es : List Event). HasWalked g t (settled g.program g.fuel t start_thread) es acts.held) (sym h.nothing)
+    (subst (λ (held : List HeldTurn). HasWalked g t (settled g.program g.fuel t start_thread) [] held) (sym h.free) (start-walked g t)))
+
 -- what holds of a run holds at its start
 pub begun-run : (g : Setting) → IsRun g (begun g)
 unfolding begun
@@ -87,12 +99,14 @@ begun-run g =
     let n = length g.program.threads in
     let h = draws_all g 0 n [] (omega arith) (none_drawn g) in
     let local : ℕ → Thread = λ t. settled g.program g.fuel t start_thread in
+    let started : (t : ℕ) → t < n → thread_of (begun g) t ≡ local t = λ t below. get_or-map-range_with_len local 0 n t t start_thread below (omega arith) in
     record {
       lawful = h.lawful;
       members = h.members;
       count = length-map-range_with_len local 0 n;
       in_place = λ t below. named-in_place g t (thread_of (begun g) t) (acts_of g (begun g).steps t)
-          (ap (λ (s : Thread). s.held) (get_or-map-range_with_len local 0 n t t start_thread below (omega arith)) ∙ settled-held g.program g.fuel t start_thread)
+          (ap (λ (s : Thread). s.held) (started t below) ∙ settled-held g.program g.fuel t start_thread)
           (h.named t below);
+      walked = λ t below. named-walked g t (thread_of (begun g) t) (acts_of g (begun g).steps t) (started t below) (h.named t below);
       odd = λ cell odd. absurd (true≢false (sym (ap is_even (h.even cell)) ∙ odd));
     }

@@ -25,8 +25,8 @@ IsPhaseAt (Loaded at value) (stops.Read cell) = cell ≡ at
 IsPhaseAt (InTurn at) (stops.Write cell value) = cell ≡ at
 IsPhaseAt (Numbered at n) (stops.Write cell value) = cell ≡ at
 IsPhaseAt (Marked at n) (stops.Write cell value) = cell ≡ at
-IsPhaseAt (Stored at n word) (stops.Write cell value) = cell ≡ at
-IsPhaseAt (Completed at n word) (stops.Write cell value) = cell ≡ at
+IsPhaseAt (Stored at n word) (stops.Write cell value) = (cell ≡ at) × (value ≡ word)
+IsPhaseAt (Completed at n word) (stops.Write cell value) = (cell ≡ at) × (value ≡ word)
 IsPhaseAt (Looked at turn) (stops.Enter monitor) = monitor ≡ at
 IsPhaseAt phase stop = ⊥
 
@@ -58,8 +58,8 @@ begins_next (stops.Write cell value) Idle shared fits = tt
 begins_next (stops.Write cell value) (InTurn at) shared fits = fits
 begins_next (stops.Write cell value) (Numbered at n) shared fits = fits
 begins_next (stops.Write cell value) (Marked at n) shared fits = fits
-begins_next (stops.Write cell value) (Stored at n word) shared fits = fits
-begins_next (stops.Write cell value) (Completed at n word) shared fits = fits
+begins_next (stops.Write cell value) (Stored at n word) shared fits = fits.0
+begins_next (stops.Write cell value) (Completed at n word) shared fits = fits.0
 begins_next (stops.Enter monitor) Idle shared fits = tt
 begins_next (stops.Enter monitor) (Looked at turn) shared fits = fits
 begins_next (stops.Exit monitor) Idle shared fits = tt
@@ -83,7 +83,7 @@ suits_next (stops.Ended end) phase acts shared fits named turn = absurd shared
 suits_next stop phase acts shared fits named turn = absurd fits
 
 -- a thread that stands at an exit holds the monitor for a turn
-turn_at_exit : (stop : Stop) (flags : List Bool) (held : List HeldTurn) → HoldsAtExit stop flags → HasTurns flags held → (monitor : ℕ) → stop ≡ stops.Exit monitor → IsSome (held_turn monitor held)
+pub turn_at_exit : (stop : Stop) (flags : List Bool) (held : List HeldTurn) → HoldsAtExit stop flags → HasTurns flags held → (monitor : ℕ) → stop ≡ stops.Exit monitor → IsSome (held_turn monitor held)
 turn_at_exit stop flags held there turns monitor e = turns monitor (subst (λ (x : Stop). HoldsAtExit x flags) e there)
 
 -- the next step of a thread that stands at a shared instruction may be made
@@ -191,7 +191,7 @@ in_place_after patience (stops.Read cell) flags name (Loaded at value) events he
 in_place_after patience (stops.Write cell value) flags name Idle events held looks met shared before = turn_taken patience flags name held looks before.named before.turns before.patient (met == 0) cell value
 in_place_after patience (stops.Write cell value) flags name (InTurn at) events held looks met shared before = goes_on patience flags name held looks before.named before.turns (stops.Write cell value) (Numbered cell (met / 2)) refl before.patient
 in_place_after patience (stops.Write cell value) flags name (Numbered at n) events held looks met shared before = goes_on patience flags name held looks before.named before.turns (stops.Write cell value) (Marked at n) before.fits before.patient
-in_place_after patience (stops.Write cell value) flags name (Marked at n) events held looks met shared before = goes_on patience flags name held looks before.named before.turns (stops.Write cell value) (Stored at n value) before.fits before.patient
+in_place_after patience (stops.Write cell value) flags name (Marked at n) events held looks met shared before = goes_on patience flags name held looks before.named before.turns (stops.Write cell value) (Stored at n value) (before.fits, refl) before.patient
 in_place_after patience (stops.Write cell value) flags name (Stored at n word) events held looks met shared before = goes_on patience flags name held looks before.named before.turns (stops.Write cell value) (Completed at n word) before.fits before.patient
 in_place_after patience (stops.Write cell value) flags name (Completed at n word) events held looks met shared before = λ other. finishes patience flags name held looks before.named before.turns other before.patient
 in_place_after patience (stops.Enter monitor) flags name Idle events held looks met shared before = monitor_looked patience flags name held looks before.named before.turns before.patient (is_even met) monitor (met / 2)

@@ -4,8 +4,11 @@ pub mod Beginning
 pub mod Begins
 pub mod Ending
 pub mod Examples
+pub mod Exits
 pub mod FewLogs
+pub mod Finishes
 pub mod FollowingExamples
+pub mod FollowsLogs
 pub mod Going
 pub mod Happening
 pub mod HeldFlags
@@ -16,4 +19,6 @@ pub mod Row
 pub mod Settling
 pub mod StepPeople
 pub mod TraceLemmas
+pub mod Walked
+pub mod Walks
 pub mod Within

@@ -1,10 +1,11 @@
 -- Behind the order: the writes and reads that are under way are finished and the exits made, and then each thread is at rest.
-use Rattle.std.proofs.Common.{◌≡◌, ◌≢◌, ℕ, zero, suc, ◌+◌, ◌<◌, ◌≤◌, Bool, true, false, List, [], ◌∷◌, None, length, refl, sym, ◌∙◌, ap, subst, inl, inr, arith}
+use Rattle.std.proofs.Common.{◌≡◌, ◌≢◌, ℕ, zero, suc, ◌+◌, ◌-◌, ◌<◌, ◌≤◌, Bool, true, false, List, [], ◌∷◌, None, length, refl, sym, ◌∙◌, ap, subst, inl, inr, arith}
 use Rattle.std.proofs.lemmas.Bool.{true≢false, cases_eq, cases_lt, cond_both, false_from_ne_true, true_from_ne_false}
+use Rattle.std.proofs.lemmas.List.{get_or-set_other}
 use Rattle.std.specs.List.{range_with_len}
 use Rattle.sc_machine.specs.declared.stop.Stop.{Stop}
 use Rattle.sc_machine.specs.declared.stop.Stop.TheVariants as stops
-use Rattle.sc_machine.specs.ThreadStep.{stop_of}
+use Rattle.sc_machine.specs.ThreadStep.{start_thread, stop_of}
 use Rattle.sc_machine.specs.Schedule.{thread_numbers}
 use Rattle.interleavings.specs.declared.acts.Acts.{Acts}
 use Rattle.interleavings.specs.declared.acts.Phase.{Phase}
@@ -15,12 +16,17 @@ use Rattle.interleavings.specs.Recording.{Drive, Setting, state_of, acts_of, thr
 use Rattle.interleavings.proofs.OddNumbers.{Marks}
 use Rattle.interleavings.proofs.InPlace.{IsPhaseAt}
 use Rattle.interleavings.proofs.Advances.{IsRun, advance-run, advance_all-run}
+use Rattle.interleavings.proofs.Exits.{exit_falls}
 use Rattle.interleavings.proofs.StepPeople.{step_here, step_elsewhere}
 use Rattle.interleavings.proofs.Beginning.{begun-run}
 
 -- what a thread is doing in a run
 abbrev pub phase_of : Setting → Drive → ℕ → Phase
 phase_of g d t = (acts_of g d.steps t).phase
+
+-- where a thread of a run stands
+abbrev pub stop_at : Setting → Drive → ℕ → Stop
+stop_at g d t = stop_of g.program t (thread_of d t)
 
 -- the phase of a thread after its next step, by where it stands and by the words; one that has ended makes none
 abbrev phase_then : (SharedWord → ℕ) → Stop → Phase → Phase
@@ -53,6 +59,19 @@ advance-here : (g : Setting) (t : ℕ) (d : Drive) → phase_of g (advance g t d
 unfolding advance
 advance-here g t d = advanced_at-here g t (stop_of g.program t (thread_of d t)) d
 
+-- by the stop: the other threads stay where they are by a thread's step
+advanced_at-thread_elsewhere : (g : Setting) (t : ℕ) (stop : Stop) (d : Drive) (u : ℕ) → u ≢ t → thread_of (advanced_at g t stop d) u ≡ thread_of d u
+advanced_at-thread_elsewhere g t (stops.Ended end) d u other = refl
+advanced_at-thread_elsewhere g t (stops.Read cell) d u other = get_or-set_other d.threads t u _ start_thread other
+advanced_at-thread_elsewhere g t (stops.Write cell value) d u other = get_or-set_other d.threads t u _ start_thread other
+advanced_at-thread_elsewhere g t (stops.Enter monitor) d u other = get_or-set_other d.threads t u _ start_thread other
+advanced_at-thread_elsewhere g t (stops.Exit monitor) d u other = get_or-set_other d.threads t u _ start_thread other
+
+-- the other threads stay where they are by a thread's step
+advance-thread_elsewhere : (g : Setting) (t : ℕ) (d : Drive) (u : ℕ) → u ≢ t → thread_of (advance g t d) u ≡ thread_of d u
+unfolding advance
+advance-thread_elsewhere g t d u other = advanced_at-thread_elsewhere g t (stop_at g d t) d u other
+
 module _ (test : Drive → Bool) (g : Setting) (t : ℕ) (Good : Drive → Type 0) (keeps : (d : Drive) → test d ≡ true → Good d → Good (advance g t d)) where
   -- what each step keeps is kept by the steps that are made as long as the test passes
   while_keeps : (n : ℕ) (d : Drive) → Good d → Good (advance_while test g t n d)
@@ -66,26 +85,30 @@ module _ (test : Drive → Bool) (g : Setting) (t : ℕ) (Good : Drive → Type 
   while_ends left falls zero d good below = false_from_ne_true (test d) (λ e. omega (arith, falls d e good))
   while_ends left falls (suc n) d good below = cond_both (test d) (advance_while test g t n (advance g t d)) d (λ x. test x ≡ false) (λ e. while_ends left falls n (advance g t d) (keeps d e good) (omega (arith, falls d e good))) (λ e. e)
 
--- after one thread has done so, the run is good, the thread's phase is as wanted, and the others' phases are as they were
-record IsDone (g : Setting) (Good : Drive → Type 0) (Wanted : Phase → Type 0) (t : ℕ) (d d' : Drive) : Type 0 where
+-- after one thread has done so, the run is good, what is seen of the thread is as wanted, and of the others as it was
+record IsDone (X : Type 0) (seen : Drive → ℕ → X) (Good : Drive → Type 0) (Wanted : X → Type 0) (t : ℕ) (d d' : Drive) : Type 0 where
   good : Good d'
-  wanted : Wanted (phase_of g d' t)
-  others : (u : ℕ) → u ≢ t → phase_of g d' u ≡ phase_of g d u
+  wanted : Wanted (seen d' t)
+  others : (u : ℕ) → u ≢ t → seen d' u ≡ seen d u
+
+-- what is seen of each thread below n is as wanted
+abbrev pub AreAll : (X : Type 0) → (Drive → ℕ → X) → (X → Type 0) → ℕ → Drive → Type 0
+AreAll X seen Wanted n d = (t : ℕ) → t < n → Wanted (seen d t)
 
 -- the phases of the threads below n are as wanted
-abbrev AllPhases : Setting → (Phase → Type 0) → ℕ → Drive → Type 0
-AllPhases g Wanted n d = (t : ℕ) → t < n → Wanted (phase_of g d t)
+abbrev pub AllPhases : Setting → (Phase → Type 0) → ℕ → Drive → Type 0
+AllPhases g Wanted n d = AreAll Phase (phase_of g) Wanted n d
 
-module _ (g : Setting) (finish : Setting → ℕ → Drive → Drive) (Good : Drive → Type 0) (Wanted : Phase → Type 0) (each : (t : ℕ) → t < length g.program.threads → (d : Drive) → Good d → IsDone g Good Wanted t d (finish g t d)) where
-  -- after each thread has done so, all phases are as wanted
-  for_each-done : (i k : ℕ) (d : Drive) → i + k ≡ length g.program.threads → Good d → AllPhases g Wanted i d → Good (for_each finish g (range_with_len i k) d) × AllPhases g Wanted (length g.program.threads) (for_each finish g (range_with_len i k) d)
+module _ (X : Type 0) (seen : Drive → ℕ → X) (g : Setting) (finish : Setting → ℕ → Drive → Drive) (Good : Drive → Type 0) (Wanted : X → Type 0) (each : (t : ℕ) → t < length g.program.threads → (d : Drive) → Good d → IsDone X seen Good Wanted t d (finish g t d)) where
+  -- after each thread has done so, all are as wanted
+  for_each-done : (i k : ℕ) (d : Drive) → i + k ≡ length g.program.threads → Good d → AreAll X seen Wanted i d → Good (for_each finish g (range_with_len i k) d) × AreAll X seen Wanted (length g.program.threads) (for_each finish g (range_with_len i k) d)
   for_each-done i zero d e good wanted = (good, λ t below. wanted t (omega arith))
   for_each-done i (suc k) d e good wanted =
       let done = each i (omega arith) d good in
       for_each-done (i + 1) k (finish g i d) (omega arith) done.good
       (λ t below. elim (cases_eq t i) [
-        | inl same ↦ subst (λ (x : ℕ). Wanted (phase_of g (finish g i d) x)) (sym same) done.wanted
-        | inr other ↦ subst (λ (x : Phase). Wanted x) (sym (done.others t other)) (wanted t (omega arith))
+        | inl same ↦ subst (λ (x : ℕ). Wanted (seen (finish g i d) x)) (sym same) done.wanted
+        | inr other ↦ subst (λ (x : X). Wanted x) (sym (done.others t other)) (wanted t (omega arith))
       ])
 
 -- how many steps a write that is under way has left
@@ -173,7 +196,7 @@ even_without_turns g d run free cell = true_from_ne_false (is_even ((state_of g 
 
 module _ (g : Setting) (t : ℕ) (there : t < length g.program.threads) where
   -- a thread's write is finished, and the others' phases stay
-  write-done : (d : Drive) → IsRun g d → IsDone g (IsRun g) (λ phase. has_turn phase ≡ false) t d (write_finished g t d)
+  write-done : (d : Drive) → IsRun g d → IsDone Phase (phase_of g) (IsRun g) (λ phase. has_turn phase ≡ false) t d (write_finished g t d)
   write-done d run =
       let Good : Drive → Type 0 = λ x. IsRun g x × ((u : ℕ) → u ≢ t → phase_of g x u ≡ phase_of g d u) in
       let test : Drive → Bool = λ x. has_turn (phase_of g x t) in
@@ -200,7 +223,7 @@ module _ (g : Setting) (t : ℕ) (there : t < length g.program.threads) where
   ]
 
   -- a thread's read is finished, and it is at rest
-  read-done : (d : Drive) → IsRun g d × NoTurns g d → IsDone g (λ x. IsRun g x × NoTurns g x) IsAtRest t d (read_finished g t d)
+  read-done : (d : Drive) → IsRun g d × NoTurns g d → IsDone Phase (phase_of g) (λ x. IsRun g x × NoTurns g x) IsAtRest t d (read_finished g t d)
   read-done d start =
       let Good : Drive → Type 0 = λ x. IsRun g x × NoTurns g x × ((u : ℕ) → u ≢ t → phase_of g x u ≡ phase_of g d u) in
       let test : Drive → Bool = λ x. is_loaded (phase_of g x t) in
@@ -224,29 +247,34 @@ module _ (g : Setting) (t : ℕ) (there : t < length g.program.threads) where
   ]
 
   -- a thread's exits are made
-  exit-done : (d : Drive) → IsResting g d → IsDone g (IsResting g) IsAtRest t d (exits_made g t d)
+  exit-done : (d : Drive) → IsResting g d → IsDone Stop (stop_at g) (IsResting g) (λ stop. is_exit stop ≡ false) t d (exits_made g t d)
   exit-done d start =
-      let Good : Drive → Type 0 = λ x. IsRun g x × ((u : ℕ) → phase_of g x u ≡ phase_of g d u) in
+      let Good : Drive → Type 0 = λ x. IsRun g x × ((u : ℕ) → phase_of g x u ≡ phase_of g d u) × ((u : ℕ) → u ≢ t → thread_of x u ≡ thread_of d u) in
       let test : Drive → Bool = λ x. is_exit (stop_of g.program t (thread_of x t)) in
-      let keeps : (x : Drive) → test x ≡ true → Good x → Good (advance g t x) = λ x e good. (advance-run g t x there good.0, λ u. exit_keeps x e u ∙ good.1 u) in
-      let last = while_keeps test g t Good keeps g.fuel d (start.0, λ u. refl) in
+      let keeps : (x : Drive) → test x ≡ true → Good x → Good (advance g t x) = λ x e good. (advance-run g t x there good.0, λ u. exit_keeps x e u ∙ good.1 u, λ u other. advance-thread_elsewhere g t x u other ∙ good.2 u other) in
+      let left : Drive → ℕ = λ x. g.fuel - (thread_of x t).made in
+      let last = while_keeps test g t Good keeps g.fuel d (start.0, λ u. refl, λ u other. refl) in
       record {
         good = (last.0, λ u below. subst IsAtRest (sym (last.1 u)) (start.1 u below));
-        wanted = subst IsAtRest (sym (last.1 t)) (start.1 t there);
-        others = λ u other. last.1 u;
+        wanted = while_ends test g t Good keeps left (λ x e good. exit_falls g t x there e good.0) g.fuel d (start.0, λ u. refl, λ u other. refl) (omega arith);
+        others = λ u other. ap (λ s. stop_of g.program u s) (last.2 u other);
       }
 
--- a run that has settled is a history after which the program's threads are at rest
-settled-resting : (g : Setting) (d : Drive) → IsRun g d → IsResting g (for_each exits_made g (thread_numbers g.program) (for_each read_finished g (thread_numbers g.program) (for_each write_finished g (thread_numbers g.program) d)))
+-- the run once all that is under way is finished, before the threads are stopped
+abbrev pub at_last : Setting → Drive → Drive
+at_last g d = for_each exits_made g (thread_numbers g.program) (for_each read_finished g (thread_numbers g.program) (for_each write_finished g (thread_numbers g.program) d))
+
+-- a run that has settled is a history after which the program's threads are at rest, and none stands at an exit
+pub settled-resting : (g : Setting) (d : Drive) → IsRun g d → IsResting g (at_last g d) × AreAll Stop (stop_at g) (λ stop. is_exit stop ≡ false) (length g.program.threads) (at_last g d)
 settled-resting g d run =
     let n = length g.program.threads in
     let ts = thread_numbers g.program in
     let whole : 0 + n ≡ n = omega arith in
-    let writes = for_each-done g write_finished (IsRun g) (λ phase. has_turn phase ≡ false) (write-done g) 0 n d whole run (λ t below. absurd (omega arith)) in
+    let writes = for_each-done Phase (phase_of g) g write_finished (IsRun g) (λ phase. has_turn phase ≡ false) (write-done g) 0 n d whole run (λ t below. absurd (omega arith)) in
     let written = for_each write_finished g ts d in
-    let loads = for_each-done g read_finished (λ x. IsRun g x × NoTurns g x) IsAtRest (read-done g) 0 n written whole writes (λ t below. absurd (omega arith)) in
+    let loads = for_each-done Phase (phase_of g) g read_finished (λ x. IsRun g x × NoTurns g x) IsAtRest (read-done g) 0 n written whole writes (λ t below. absurd (omega arith)) in
     let read = for_each read_finished g ts written in
-    (for_each-done g exits_made (IsResting g) IsAtRest (exit-done g) 0 n read whole (loads.0.0, loads.1) (λ t below. absurd (omega arith))).0
+    for_each-done Stop (stop_at g) g exits_made (IsResting g) (λ stop. is_exit stop ≡ false) (exit-done g) 0 n read whole (loads.0.0, loads.1) (λ t below. absurd (omega arith))
 
 -- nobody but those who made the steps has done anything
 outsider : (g : Setting) (steps : List Step) (n t : ℕ) → ((s : Step) → Among s steps → s.who < n) → n ≤ t → acts_of g steps t ≡ newcomer.acts
@@ -259,7 +287,7 @@ pub driven-history : (g : Setting) (order : List ℕ) → stranger (length g.pro
 unfolding driven recording_of whole_run settle_all
 driven-history g order known =
     let n = length g.program.threads in
-    let resting = settled-resting g (advance_all g order (begun g)) (advance_all-run g order (begun g) known (begun-run g)) in
+    let resting = (settled-resting g (advance_all g order (begun g)) (advance_all-run g order (begun g) known (begun-run g))).0 in
     let steps = (whole_run g order).steps in
     record {
       lawful = resting.0.lawful;

@@ -1,16 +1,17 @@
 -- Following: each thread run again by its code, where its log answers its shared instructions.
-use Rattle.std.specs.Prelude.{ℕ, zero, suc, ◌+◌, ◌==◌, if◌then◌else◌, List, [], ◌∷◌, length, Option, Some, None, Result, Ok, Err, slice_get}
+use Rattle.std.specs.Prelude.{◌≡◌, ℕ, zero, suc, ◌+◌, ◌==◌, if◌then◌else◌, List, [], ◌∷◌, map, length, Option, Some, None, Result, Ok, Err, slice_get}
 use Rattle.stride_isa.specs.Listing.{Listing}
 use Rattle.sc_machine.specs.declared.stop.Stop.{Stop}
 use Rattle.sc_machine.specs.declared.stop.Stop.TheVariants as stops
-use Rattle.sc_machine.specs.Schedule.{stopped}
-use Rattle.sc_machine.specs.ThreadStep.{Thread, start_thread, settled, answered, stop_of}
+use Rattle.sc_machine.specs.Schedule.{stopped, thread_numbers}
+use Rattle.sc_machine.specs.ThreadStep.{Thread, start_thread, settled, answered, stop_of, end_of}
 use Rattle.interleavings.specs.declared.event.Event.{Event}
 use Rattle.interleavings.specs.declared.event.Event.TheVariants as events
 use Rattle.interleavings.specs.declared.event.LogEntry.{LogEntry}
 use Rattle.interleavings.specs.declared.event.LogEntry.TheVariants as entries
 use Rattle.interleavings.specs.Events.{read_of}
-use Rattle.interleavings.specs.Recording.{word_given}
+use Rattle.interleavings.specs.History.{Step}
+use Rattle.interleavings.specs.Recording.{Setting, Recording, acts_of, word_given}
 
 -- what comes of where a thread stands and of the next entry of its log: it makes an event, it makes none and is over, or
 -- the entry is none that it can use there
@@ -107,3 +108,12 @@ follow_all_from p fuel t (suc threads) (log ∷ logs) = thread_before t (follow 
 -- all threads of the program, each by its log, or where the least thread that does parts from its log
 unfoldable pub follow_all : Listing → ℕ → List (List LogEntry) → Result (List Followed) Divergence
 follow_all p fuel logs = follow_all_from p fuel 0 (length p.threads) logs
+
+-- following the logs of a recording gives the events that these steps finished, and the outputs and the ends of the
+-- recording
+pub record IsFollowed (g : Setting) (recording : Recording) (steps : List Step) : Type 0 where
+  pub followed : List Followed
+  pub follows : follow_all g.program g.fuel recording.logs ≡ Ok followed
+  pub events : map (λ (f : Followed). f.events) followed ≡ map (λ t. (acts_of g steps t).events) (thread_numbers g.program)
+  pub outputs : map (λ (f : Followed). f.thread.out) followed ≡ recording.outputs
+  pub ends : map (λ (f : Followed). end_of f.thread) followed ≡ recording.ends

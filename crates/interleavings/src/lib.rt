@@ -1,7 +1,8 @@
 //! Recording one atomic step at a time.
 //!
 //! Owns: events and log entries (`Events`), the twelve kinds of atomic steps (`AtomicStep`), histories of such steps
-//! (`History`), the recording that an order gives (`Recording`), and the law that its steps are a history (`Laws`).
+//! (`History`), the recording that an order gives (`Recording`), what running a thread again by its log comes to
+//! (`Following`), and the laws that the recording's steps are a history and that following its logs gives it back (`Laws`).
 //! The layer above may rely on this: `drive` gives exactly that recording, and an event of `Traces` is seen by `at` alone.
 #![tactic(auto)]
 
@@ -27,7 +28,7 @@ pub use driven::{DriveError, Driven};
 pub use driving::drive;
 pub use event::{Event, LogEntry, entry_of};
 pub use kind::Kind;
-pub use laws::driven_is_a_history;
+pub use laws::{driven_is_a_history, driven_is_followed};
 pub use traces::{Place, Traces};
 
 #[cfg(test)]

@@ -1,0 +1,43 @@
+-- A thread that stands at an exit, and what its step leaves of its fuel.
+use Rattle.std.proofs.Common.{◌≡◌, ℕ, ◌-◌, ◌<◌, true, length, refl, sym, ◌∙◌, ap, inl, inr, arith, Option, Some, None}
+use Rattle.std.proofs.lemmas.Bool.{true≢false}
+use Rattle.std.proofs.lemmas.List.{get_or-set_same}
+use Rattle.stride_isa.specs.Listing.{op_at}
+use Rattle.sc_machine.specs.declared.end.End.{End}
+use Rattle.sc_machine.specs.declared.stop.Stop.{Stop}
+use Rattle.sc_machine.specs.declared.stop.Stop.TheVariants as stops
+use Rattle.sc_machine.specs.ThreadStep.{Thread, Row, start_thread, row, holds, now_unless, stop_in, stop_of}
+use Rattle.interleavings.specs.declared.event.Event.{Event}
+use Rattle.interleavings.specs.declared.event.Event.TheVariants as events
+use Rattle.interleavings.specs.AtomicStep.{held_turn, turn_or_zero}
+use Rattle.interleavings.specs.Recording.{Drive, Setting, acts_of, thread_of, is_exit, advanced_at, advance}
+use Rattle.interleavings.proofs.Advances.{IsRun, answered_flags}
+use Rattle.interleavings.proofs.HeldFlags.{none_held}
+use Rattle.interleavings.proofs.Walks.{IsAlive, behind, behind-made}
+
+-- a thread that stands at an exit has not ended
+not_ended : (ended : Option End) (r : Row) (monitor : ℕ) → stop_in (now_unless ended r) ≡ stops.Exit monitor → ended ≡ None
+not_ended None r monitor e = refl
+not_ended (Some end) r monitor e = cc
+
+-- it holds the monitor, so it is not at its start, and has fuel left
+exit_has_fuel : (g : Setting) (t : ℕ) (s : Thread) (monitor : ℕ) → stop_of g.program t s ≡ stops.Exit monitor → IsAlive g.fuel s → s.made < g.fuel
+exit_has_fuel g t s monitor e (inl left) = left (not_ended s.ended (row g.program (op_at g.program t s.pc) s.pc s.stack s.locals s.held) monitor e)
+exit_has_fuel g t s monitor e (inr start) =
+    let holding : holds s.held monitor ≡ true = (answered_flags (stops.Exit monitor) g t s tt e).1 in
+    absurd (true≢false (sym holding ∙ ap (λ (x : Thread). holds x.held monitor) start ∙ none_held 64 monitor))
+
+-- by the stop
+advanced_at-falls : (g : Setting) (t : ℕ) (stop : Stop) (d : Drive) → t < length g.program.threads → stop_of g.program t (thread_of d t) ≡ stop → is_exit stop ≡ true → IsRun g d → g.fuel - (thread_of (advanced_at g t stop d) t).made < g.fuel - (thread_of d t).made
+advanced_at-falls g t (stops.Exit monitor) d there e exit run =
+    let s = thread_of d t in
+    let event : Event = events.Exit monitor (turn_or_zero (held_turn monitor (acts_of g d.steps t).held)) in
+    let made : (thread_of (advanced_at g t (stops.Exit monitor) d) t).made ≡ (behind g.program g.fuel t event s).made =
+    ap (λ (x : Thread). x.made) (get_or-set_same d.threads t (behind g.program g.fuel t event s) start_thread (omega (arith, there, run.count))) in
+    omega (arith, made, behind-made g.program g.fuel t event s, exit_has_fuel g t s monitor e (run.walked t there).alive)
+advanced_at-falls g t stop d there e exit run = absurd (true≢false (sym exit))
+
+-- the exit leaves less of its fuel
+pub exit_falls : (g : Setting) (t : ℕ) (d : Drive) → t < length g.program.threads → is_exit (stop_of g.program t (thread_of d t)) ≡ true → IsRun g d → g.fuel - (thread_of (advance g t d) t).made < g.fuel - (thread_of d t).made
+unfolding advance
+exit_falls g t d there exit run = advanced_at-falls g t (stop_of g.program t (thread_of d t)) d there refl exit run

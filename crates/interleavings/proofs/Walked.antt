@@ -1,0 +1,85 @@
+-- A thread of a run came to where it stands by its events, and does so still after a step.
+use Rattle.std.proofs.Common.{◌≡◌, ℕ, zero, suc, false, List, [], ◌∷◌, ◌++◌, Option, Some, None, refl, sym, ◌∙◌, ap, subst, inl, inr, arith}
+use Rattle.std.proofs.lemmas.Bool.{cond_both}
+use Rattle.std.specs.Prelude.{◌⊎◌}
+use Rattle.stride_isa.specs.Listing.{Listing}
+use Rattle.sc_machine.specs.ThreadRun.{IsShared}
+use Rattle.sc_machine.specs.ThreadStep.{Thread, start_thread, local_steps, settled, stop_of}
+use Rattle.sc_machine.specs.Schedule.{stopped}
+use Rattle.sc_machine.proofs.Standing.{settled-has_fuel}
+use Rattle.interleavings.specs.declared.acts.HeldTurn.{HeldTurn}
+use Rattle.interleavings.specs.declared.acts.OddLooks.{OddLooks}
+use Rattle.interleavings.specs.declared.event.Event.{Event}
+use Rattle.interleavings.specs.AtomicStep.{with_event}
+use Rattle.interleavings.specs.Recording.{Setting, gives_up, is_exit, thread_after}
+use Rattle.interleavings.proofs.Finishes.{HasEntered, IsFinished}
+use Rattle.interleavings.proofs.Walks.{IsAlive, IsMet, Walks, behind, behind-alive, turns_behind, turns_behind-on, walks_on}
+
+-- no monitor was entered yet
+abbrev pub no_turns : ℕ → ℕ
+no_turns monitor = 0
+
+-- the thread came to where it stands by these events, or gave up there, which it does at no exit; the turns that it holds
+-- are those of its last entries
+pub record HasWalked (g : Setting) (t : ℕ) (s : Thread) (done : List Event) (held : List HeldTurn) : Type 0 where
+  pub last : Thread
+  pub walks : Walks g.program g.fuel t done no_turns (settled g.program g.fuel t start_thread) last
+  pub stands : (s ≡ last) ⊎ ((s ≡ stopped last) × (is_exit (stop_of g.program t last) ≡ false))
+  pub entered : HasEntered held (turns_behind done no_turns)
+  pub alive : IsAlive g.fuel s
+
+-- a thread at a shared instruction has not given up
+not_given_up : (g : Setting) (t : ℕ) (s last : Thread) → IsShared (stop_of g.program t s) → (s ≡ last) ⊎ ((s ≡ stopped last) × (is_exit (stop_of g.program t last) ≡ false)) → s ≡ last
+not_given_up g t s last shared (inl same) = same
+not_given_up g t s last shared (inr (same, inside)) = absurd (subst (λ (x : Thread). IsShared (stop_of g.program t x)) same shared)
+
+-- a thread that gives up has an end
+given_up-alive : (fuel : ℕ) (s : Thread) → IsAlive fuel (stopped s)
+given_up-alive fuel s = inl (λ e. cc)
+
+-- by what the step finished
+pub thread_after-walked : (g : Setting) (t : ℕ) (s : Thread) (done : List Event) (old new : List HeldTurn) (finished : Option Event) (row : Option OddLooks) → IsShared (stop_of g.program t s) → HasWalked g t s done old → IsFinished (stop_of g.program t s) (turns_behind done no_turns) old new finished → HasWalked g t (thread_after g t finished row s) (with_event done finished) new
+thread_after-walked g t s done old new (Some event) row shared walked finishes =
+    let same : s ≡ walked.last = not_given_up g t s walked.last shared walked.stands in
+    record {
+      last = behind g.program g.fuel t event s;
+      walks = subst (λ (x : Thread). Walks g.program g.fuel t (done ++ event ∷ []) no_turns (settled g.program g.fuel t start_thread) (behind g.program g.fuel t event x)) (sym same)
+          (walks_on g.program g.fuel t done no_turns (settled g.program g.fuel t start_thread) walked.last event walked.walks (subst (λ (x : Thread). IsMet (stop_of g.program t x) (turns_behind done no_turns) event) same finishes.0));
+      stands = inl refl;
+      entered = subst (λ (turns : ℕ → ℕ). HasEntered new turns) (sym (turns_behind-on done no_turns event)) finishes.1;
+      alive = behind-alive g.program g.fuel t event s;
+    }
+thread_after-walked g t s done old new None row shared walked finishes =
+    let same : s ≡ walked.last = not_given_up g t s walked.last shared walked.stands in
+    let entered : HasEntered new (turns_behind done no_turns) = subst (λ (held : List HeldTurn). HasEntered held (turns_behind done no_turns)) (sym finishes.0) walked.entered in
+    cond_both (gives_up g.patience row) (stopped s) s (λ x. HasWalked g t x done new)
+    (λ gives. record {
+      last = walked.last;
+      walks = walked.walks;
+      stands = inr (ap stopped same, sym (ap (λ (x : Thread). is_exit (stop_of g.program t x)) same) ∙ finishes.1);
+      entered = entered;
+      alive = given_up-alive g.fuel s;
+    })
+    (λ calm. record {
+      last = walked.last;
+      walks = walked.walks;
+      stands = inl same;
+      entered = entered;
+      alive = walked.alive;
+    })
+
+-- after its local start a thread has fuel left where it has not ended, or it has none from the start
+pub start-alive : (p : Listing) (fuel t : ℕ) → IsAlive fuel (settled p fuel t start_thread)
+unfolding settled local_steps
+start-alive p zero t = inr refl
+start-alive p (suc n) t = inl (settled-has_fuel p (suc n) t start_thread (λ e. omega arith))
+
+-- a thread that has made no event and holds nothing
+pub start-walked : (g : Setting) (t : ℕ) → HasWalked g t (settled g.program g.fuel t start_thread) [] []
+start-walked g t = record {
+  last = settled g.program g.fuel t start_thread;
+  walks = refl;
+  stands = inl refl;
+  entered = λ monitor turn e. cc;
+  alive = start-alive g.program g.fuel t;
+}
