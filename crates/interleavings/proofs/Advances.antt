@@ -8,15 +8,15 @@ use Rattle.stride_isa.specs.Listing.{op_at, starts_of}
 use Rattle.sc_machine.specs.declared.stop.Stop.{Stop}
 use Rattle.sc_machine.specs.declared.stop.Stop.TheVariants as stops
 use Rattle.sc_machine.specs.ThreadRun.{IsShared}
-use Rattle.sc_machine.specs.ThreadStep.{Thread, start_thread, answered, settled, stop_of, done_held}
+use Rattle.sc_machine.specs.ThreadStep.{Thread, start_thread, answered, stop_of, done_held}
 use Rattle.sc_machine.specs.Schedule.{stopped}
 use Rattle.interleavings.specs.declared.acts.Acts.{Acts}
 use Rattle.interleavings.specs.declared.acts.Phase.{Phase}
 use Rattle.interleavings.specs.declared.event.Event.{Event}
 use Rattle.interleavings.specs.AtomicStep.{Number, word_of, May, is_even, acts_after, phase_after}
-use Rattle.interleavings.specs.Events.{read_of}
+use Rattle.interleavings.specs.Events.{word_given}
 use Rattle.interleavings.specs.History.{Step, after, IsHistory}
-use Rattle.interleavings.specs.Recording.{Drive, Setting, state_of, acts_of, thread_of, next_kind, at_of, next_step, finished_in, word_given, gives_up, thread_after, stepped, advanced_at, advance, advance_all, stranger, Among}
+use Rattle.interleavings.specs.Recording.{Drive, Setting, state_of, acts_of, thread_of, next_kind, at_of, next_step, finished_in, gives_up, behind, thread_after, stepped, advanced_at, advance, advance_all, stranger, Among}
 use Rattle.interleavings.proofs.HeldFlags.{flags_after, HoldsAtExit, IsAnsweredAs, stands_answered, settled-held}
 use Rattle.interleavings.proofs.StepPeople.{step_here, step_elsewhere}
 use Rattle.interleavings.proofs.OddNumbers.{Marks, odd_after}
@@ -61,9 +61,8 @@ answered_flags stop g t s shared e = by_stop stop shared (subst (λ (x : Stop). 
 -- a thread that is in place after a step is so where it stands then
 thread_after-in_place : (g : Setting) (t : ℕ) (s : Thread) (stop : Stop) (acts : Acts) (finished : Option Event) → stop_of g.program t s ≡ stop → done_held (op_at g.program t s.pc) s.held ≡ flags_after stop s.held → IsInPlaceAfter g.patience stop s.held acts.name acts.phase acts.held acts.looks finished → IsThreadInPlace g t (thread_after g t finished acts.looks s) acts
 thread_after-in_place g t s stop acts (Some event) e flags after_step =
-    let s' = answered g.program g.fuel t (word_given (read_of event)) s in
-    let made = settled g.program g.fuel t s' in
-    let same : made.held ≡ flags_after stop s.held = settled-held g.program g.fuel t s' ∙ flags in
+    let made = behind g.program g.fuel t event s in
+    let same : made.held ≡ flags_after stop s.held = settled-held g.program g.fuel t (answered g.program g.fuel t (word_given event) s) ∙ flags in
     subst (λ (f : List Bool). AreInPlace g.patience (stop_of g.program t made) f acts) (sym same) (after_step (stop_of g.program t made))
 thread_after-in_place g t s stop acts None e flags after_step = cond_both (gives_up g.patience acts.looks) (stopped s) s (λ x. IsThreadInPlace g t x acts) (λ gives. after_step.1 _ gives) (λ calm. subst (λ (x : Stop). AreInPlace g.patience x s.held acts) (sym e) (after_step.0 calm))
 

@@ -10,10 +10,10 @@ use Rattle.sc_machine.specs.ThreadStep.{Thread, Row, start_thread, row, holds, n
 use Rattle.interleavings.specs.declared.event.Event.{Event}
 use Rattle.interleavings.specs.declared.event.Event.TheVariants as events
 use Rattle.interleavings.specs.AtomicStep.{held_turn, turn_or_zero}
-use Rattle.interleavings.specs.Recording.{Drive, Setting, acts_of, thread_of, is_exit, advanced_at, advance}
+use Rattle.interleavings.specs.Recording.{Drive, Setting, acts_of, behind, thread_of, is_exit, advanced_at, advance}
 use Rattle.interleavings.proofs.Advances.{IsRun, answered_flags}
 use Rattle.interleavings.proofs.HeldFlags.{none_held}
-use Rattle.interleavings.proofs.Walks.{IsAlive, behind, behind-made}
+use Rattle.interleavings.proofs.Walks.{IsAlive, behind-made}
 
 -- a thread that stands at an exit has not ended
 not_ended : (ended : Option End) (r : Row) (monitor : ℕ) → stop_in (now_unless ended r) ≡ stops.Exit monitor → ended ≡ None

@@ -11,9 +11,9 @@ use Rattle.interleavings.specs.declared.acts.HeldTurn.{HeldTurn}
 use Rattle.interleavings.specs.declared.acts.OddLooks.{OddLooks}
 use Rattle.interleavings.specs.declared.event.Event.{Event}
 use Rattle.interleavings.specs.AtomicStep.{with_event}
-use Rattle.interleavings.specs.Recording.{Setting, gives_up, is_exit, thread_after}
+use Rattle.interleavings.specs.Recording.{Setting, behind, gives_up, is_exit, thread_after}
 use Rattle.interleavings.proofs.Finishes.{HasEntered, IsFinished}
-use Rattle.interleavings.proofs.Walks.{IsAlive, IsMet, Walks, behind, behind-alive, turns_behind, turns_behind-on, walks_on}
+use Rattle.interleavings.proofs.Walks.{IsAlive, IsMet, Walks, behind-alive, turns_behind, turns_behind-on, walks_on}
 
 -- no monitor was entered yet
 abbrev pub no_turns : ℕ → ℕ

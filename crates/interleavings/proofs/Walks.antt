@@ -16,13 +16,9 @@ use Rattle.interleavings.specs.declared.event.Event.{Event}
 use Rattle.interleavings.specs.declared.event.Event.TheVariants as events
 use Rattle.interleavings.specs.declared.event.LogEntry.{LogEntry}
 use Rattle.interleavings.specs.declared.event.LogEntry.TheVariants as entries
-use Rattle.interleavings.specs.Events.{entry_of, log_of, read_of}
-use Rattle.interleavings.specs.Recording.{word_given, is_exit}
+use Rattle.interleavings.specs.Events.{entry_of, log_of, word_given}
+use Rattle.interleavings.specs.Recording.{behind, is_exit}
 use Rattle.interleavings.specs.Following.{Makes, Over, met_of, on_met, event_before, place_after, turns_after, follow_from}
-
--- the thread behind an event
-abbrev pub behind : Listing → ℕ → ℕ → Event → Thread → Thread
-behind p fuel t event s = settled p fuel t (answered p fuel t (word_given (read_of event)) s)
 
 -- the event is one of the shared instruction; an exit has the turn of the last entry into its monitor
 abbrev pub IsMet : Stop → (ℕ → ℕ) → Event → Type 0
@@ -55,11 +51,11 @@ IsAlive fuel s = HasFuel fuel s ⊎ (s ≡ start_thread)
 -- behind an event it has made one instruction more at least
 pub behind-made : (p : Listing) (fuel t : ℕ) (event : Event) (s : Thread) → s.made < (behind p fuel t event s).made
 unfolding settled
-behind-made p fuel t event s = omega (arith, local_steps-made-le p fuel t (fuel - (s.made + 1)) (answered p fuel t (word_given (read_of event)) s))
+behind-made p fuel t event s = omega (arith, local_steps-made-le p fuel t (fuel - (s.made + 1)) (answered p fuel t (word_given event) s))
 
 -- and has fuel left where it has not ended
 pub behind-alive : (p : Listing) (fuel t : ℕ) (event : Event) (s : Thread) → IsAlive fuel (behind p fuel t event s)
-behind-alive p fuel t event s = inl (settled-has_fuel p fuel t _ (answered-has_fuel p fuel t (word_given (read_of event)) s))
+behind-alive p fuel t event s = inl (settled-has_fuel p fuel t _ (answered-has_fuel p fuel t (word_given event) s))
 
 -- a thread that has ended meets no event
 nothing_met : (ended : Option End) (r : Row) (turns : ℕ → ℕ) (event : Event) → (ended ≡ None → ⊥) → IsMet (stop_in (now_unless ended r)) turns event → ⊥

@@ -11,10 +11,10 @@ use Rattle.interleavings.specs.declared.acts.OddLooks.{OddLooks}
 use Rattle.interleavings.specs.declared.core_words.Core.{Core}
 use Rattle.interleavings.specs.declared.driver.Driver.{Driver}
 use Rattle.interleavings.specs.declared.event.Event.{Event}
-use Rattle.interleavings.specs.declared.event.Event.TheVariants as events
 use Rattle.interleavings.specs.declared.runner.Runner.{Runner}
 use Rattle.interleavings.specs.declared.driver.Rest.{Rest}
 use Rattle.interleavings.specs.declared.driver.Rest.TheVariants as rests
+use Rattle.interleavings.specs.Events.{word_in}
 use Rattle.interleavings.specs.History.{start_state, after}
 use Rattle.interleavings.specs.Recording.{Drive, Setting, state_of, acts_of, thread_of, thread_after, advance_while, for_each, has_turn, is_loaded, is_exit, write_finished, read_finished, exits_made}
 use Rattle.interleavings.specs.CoreShows.{ShowsState, HasWholeRow}
@@ -39,13 +39,6 @@ is_end (Write cell value) = false
 is_end (Enter monitor) = false
 is_end (Exit monitor) = false
 is_end (Ended end) = true
-
--- the word that an event gives its thread, where it is a read
-abbrev pub word_in : Event → Option ℕ
-word_in (events.Read cell value bound) = Some value
-word_in (events.Write cell value number) = None
-word_in (events.Enter monitor turn) = None
-word_in (events.Exit monitor turn) = None
 
 -- the event finishes the instruction at the stop
 abbrev pub SuitsStop : Stop → Option Event → Type 0

@@ -1,6 +1,7 @@
 -- Events, and what a log keeps of them.
-use Rattle.std.specs.Prelude.{ℕ, List, Option, Some, None}
+use Rattle.std.specs.Prelude.{ℕ, List, Option, Some, None, unwrap_or}
 use Rattle.std.specs.List.{filter_map}
+use Rattle.std.specs.Option.{option_map}
 use Rattle.interleavings.specs.declared.event.Event.{Event}
 use Rattle.interleavings.specs.declared.event.Event.TheVariants as events
 use Rattle.interleavings.specs.declared.event.LogEntry.{LogEntry}
@@ -38,3 +39,11 @@ pub record ReadOf : Type 0 where
 abbrev pub read_of : Event → Option ReadOf
 read_of (events.Read cell value bound) = Some (record { cell = cell; value = value; bound = bound })
 read_of event = None
+
+-- the word that an event gives its thread: the value that it read, if it read one
+abbrev pub word_in : Event → Option ℕ
+word_in event = option_map (λ (read : ReadOf). read.value) (read_of event)
+
+-- the same, 0 where it gives none
+abbrev pub word_given : Event → ℕ
+word_given event = unwrap_or (word_in event) 0

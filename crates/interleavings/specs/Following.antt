@@ -4,14 +4,13 @@ use Rattle.stride_isa.specs.Listing.{Listing}
 use Rattle.sc_machine.specs.declared.stop.Stop.{Stop}
 use Rattle.sc_machine.specs.declared.stop.Stop.TheVariants as stops
 use Rattle.sc_machine.specs.Schedule.{stopped, thread_numbers}
-use Rattle.sc_machine.specs.ThreadStep.{Thread, start_thread, settled, answered, stop_of, end_of}
+use Rattle.sc_machine.specs.ThreadStep.{Thread, start_thread, settled, stop_of, end_of}
 use Rattle.interleavings.specs.declared.event.Event.{Event}
 use Rattle.interleavings.specs.declared.event.Event.TheVariants as events
 use Rattle.interleavings.specs.declared.event.LogEntry.{LogEntry}
 use Rattle.interleavings.specs.declared.event.LogEntry.TheVariants as entries
-use Rattle.interleavings.specs.Events.{read_of}
 use Rattle.interleavings.specs.History.{Step}
-use Rattle.interleavings.specs.Recording.{Setting, Recording, acts_of, word_given}
+use Rattle.interleavings.specs.Recording.{Setting, Recording, acts_of, behind}
 
 -- what comes of where a thread stands and of the next entry of its log: it makes an event, it makes none and is over, or
 -- the entry is none that it can use there
@@ -79,7 +78,7 @@ on_met place s follow (Makes event) = event_before event (follow event)
 unfoldable pub follow_from : Listing → ℕ → ℕ → List LogEntry → ℕ → ℕ → (ℕ → ℕ) → Thread → Result Followed ℕ
 follow_from p fuel t log zero place turns s = Ok (record { events = []; thread = stopped s })
 follow_from p fuel t log (suc n) place turns s =
-    on_met place s (λ event. follow_from p fuel t log n (place_after event place) (turns_after event turns) (settled p fuel t (answered p fuel t (word_given (read_of event)) s))) (met_of (stop_of p t s) (slice_get log place) turns)
+    on_met place s (λ event. follow_from p fuel t log n (place_after event place) (turns_after event turns) (behind p fuel t event s)) (met_of (stop_of p t s) (slice_get log place) turns)
 
 -- the thread run again from its start by its log, or the place of the first entry that it can't use. Each event is an
 -- instruction, so there are at most as many as the fuel

@@ -17,7 +17,7 @@ use Rattle.interleavings.specs.declared.event.LogEntry.{LogEntry}
 use Rattle.interleavings.specs.declared.kind.Kind.{Kind}
 use Rattle.interleavings.specs.declared.kind.Kind.TheVariants as by
 use Rattle.interleavings.specs.AtomicStep.{Value, word_of, finished_by}
-use Rattle.interleavings.specs.Events.{ReadOf, log_of, read_of}
+use Rattle.interleavings.specs.Events.{log_of, word_given}
 use Rattle.interleavings.specs.History.{State, Step, after, IsHistory}
 
 -- a run of the program under way: its atomic steps so far, the last of them first, and its threads
@@ -83,20 +83,20 @@ next_step t stop phase = record { who = t; kind = next_kind stop phase; at = at_
 abbrev pub finished_in : State → Step → Option Event
 finished_in st s = finished_by s.kind s.at (st.people s.who).acts (st.words (word_of s.kind s.at))
 
--- the word that an event gives the thread, 0 where it is no read
-abbrev pub word_given : Option ReadOf → ℕ
-word_given (Some read) = read.value
-word_given None = 0
-
 -- whether a row of odd looks has reached the patience
 abbrev pub gives_up : ℕ → Option OddLooks → Bool
 gives_up patience None = false
 gives_up patience (Some row) = nat_le patience row.count
 
--- the thread after a step of its own: where the step finished an event, the instruction is answered and the local ones up to
--- the next shared one or the end are made; where its row of odd looks reached the patience, it ends as stopped
+-- the thread behind an event: the shared instruction at which it stood is answered, and the local ones up to the next shared
+-- one or the end are made
+abbrev pub behind : Listing → ℕ → ℕ → Event → Thread → Thread
+behind p fuel t event s = settled p fuel t (answered p fuel t (word_given event) s)
+
+-- the thread after a step of its own, which may have finished an event; where its row of odd looks reached the patience, it
+-- ends as stopped
 abbrev pub thread_after : Setting → ℕ → Option Event → Option OddLooks → Thread → Thread
-thread_after g t (Some event) row s = settled g.program g.fuel t (answered g.program g.fuel t (word_given (read_of event)) s)
+thread_after g t (Some event) row s = behind g.program g.fuel t event s
 thread_after g t None row s = if gives_up g.patience row then stopped s else s
 
 -- the run after one atomic step of a thread that stands at this shared instruction

@@ -1,6 +1,6 @@
 //! Events, and what a log keeps of them.
 ghost use Rattle.std.specs.Prelude.{◌≡◌};
-ghost use Rattle.interleavings.specs.Events.{entry_of as entry};
+ghost use Rattle.interleavings.specs.Events.{entry_of as entry, word_in};
 
 /// A finished shared instruction of a thread.
 #[derive(Clone, Copy, Debug, PartialEq, Eq)]
@@ -13,6 +13,28 @@ pub enum Event {
     Enter { mon: u32, turn: u32 },
     /// An exit from a monitor, by which this turn ends.
     Exit { mon: u32, turn: u32 },
+}
+
+impl Event {
+    /// The word that the event gives its thread: the value that it read, or `None` exactly where it is no read.
+    pub fn word(self) -> Option<u64>
+        ensures { result ≡ word_in self }
+    {
+        match self {
+            Event::Read {
+                cell: _,
+                value,
+                bound: _,
+            } => Some(value),
+            Event::Write {
+                cell: _,
+                value: _,
+                number: _,
+            }
+            | Event::Enter { mon: _, turn: _ }
+            | Event::Exit { mon: _, turn: _ } => None,
+        }
+    }
 }
 
 /// What a log keeps of an event. An exit leaves no entry.

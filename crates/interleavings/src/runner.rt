@@ -1,6 +1,5 @@
 //! One thread of a program that is recorded.
 ghost use Rattle.std.specs.Prelude.{◌≡◌, ◌<◌, ◌≤◌, IfOk, length, unwrap_or};
-ghost use Rattle.interleavings.specs.DriverShows.{word_in};
 ghost use Rattle.interleavings.specs.Recording.{gives_up as has_no_patience};
 
 use crate::acts::OddLooks;
@@ -76,7 +75,7 @@ impl<'p> Runner<'p> {
         ensures { GoesOn self.old self.new finished patience looks }
     {
         if let Some(event) = finished {
-            self.answer(word_read(event));
+            self.answer(event.word());
         } else if gives_up(patience, looks) {
             self.give_up();
         }
@@ -95,26 +94,6 @@ impl<'p> Runner<'p> {
             | Stop::Enter { mon: _ }
             | Stop::Exit { mon: _ } => self.run.give_up(),
         }
-    }
-}
-
-// The word that an event gives its thread: that of a read.
-fn word_read(event: Event) -> Option<u64>
-    ensures { result ≡ word_in event }
-{
-    match event {
-        Event::Read {
-            cell: _,
-            value,
-            bound: _,
-        } => Some(value),
-        Event::Write {
-            cell: _,
-            value: _,
-            number: _,
-        }
-        | Event::Enter { mon: _, turn: _ }
-        | Event::Exit { mon: _, turn: _ } => None,
     }
 }
 

@@ -1,24 +1,15 @@
 -- One event of a thread that is run again.
-use Rattle.std.proofs.Common.{◌≡◌, ℕ, ◌+◌, ◌-◌, ◌*◌, ◌<◌, ◌≤◌, List, Option, refl, sym, ◌∙◌, ap, subst, unwrap_or, slice_index, arith}
+use Rattle.std.proofs.Common.{◌≡◌, ℕ, ◌+◌, ◌-◌, ◌*◌, ◌<◌, ◌≤◌, List, Option, sym, ◌∙◌, ap, subst, unwrap_or, slice_index, arith}
 use Rattle.stride_base.specs.Listed.{Listed}
 use Rattle.stride_isa.specs.Listing.{Listing}
 use Rattle.sc_machine.specs.declared.stop.Stop.{Stop}
 use Rattle.sc_machine.specs.ThreadStep.{Stands, now, settled, answered}
 use Rattle.sc_machine.specs.ThreadRun.{Run, IsAnswered, IsShared, NamesCell, SameThread, state}
 use Rattle.interleavings.specs.declared.event.Event.{Event}
-use Rattle.interleavings.specs.declared.event.Event.TheVariants as events
-use Rattle.interleavings.specs.Events.{read_of}
-use Rattle.interleavings.specs.Recording.{word_given}
+use Rattle.interleavings.specs.Events.{word_in}
 use Rattle.interleavings.specs.Following.{place_after, turns_after}
 use Rattle.thread_rerun.specs.declared.follower.Follower.{Follower}
-use Rattle.thread_rerun.specs.Shows.{IsGone, thread_in, turns_in, word_in}
-
--- the word that an event gives is the one that the code takes from it
-word_taken : (event : Event) → unwrap_or (word_in event) 0 ≡ word_given (read_of event)
-word_taken (events.Read cell value bound) = refl
-word_taken (events.Write cell value number) = refl
-word_taken (events.Enter monitor turn) = refl
-word_taken (events.Exit monitor turn) = refl
+use Rattle.thread_rerun.specs.Shows.{IsGone, thread_in, turns_in}
 
 module _ (old : Follower) (mid new : Run) (printed : Listed ℕ) (stop : Stop) (event : Event) (place : ℕ) (turns : List ℕ) where
   abbrev p : Listing
@@ -65,7 +56,7 @@ module _ (old : Follower) (mid new : Run) (printed : Listed ℕ) (stop : Stop) (
             ∙ ap (λ f. settled p f mid.thread (state mid old.printed.items)) same.fuel
             ∙ ap (λ n. settled p fuel n (state mid old.printed.items)) same.thread
             ∙ ap (λ s. settled p fuel t s) (answers old.printed.items)
-            ∙ ap (λ w. settled p fuel t (answered p fuel t w (thread_in old))) (ap (λ (w : Option ℕ). unwrap_or w 0) is_word ∙ word_taken event);
+            ∙ ap (λ w. settled p fuel t (answered p fuel t w (thread_in old))) (ap (λ (w : Option ℕ). unwrap_or w 0) is_word);
         place = is_place;
         turns = is_turns;
         made = omega (arith, counts, more);

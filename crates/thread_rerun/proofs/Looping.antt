@@ -6,13 +6,12 @@ use Rattle.stride_isa.specs.Listing.{Listing}
 use Rattle.sc_machine.specs.declared.stop.Stop.{Stop}
 use Rattle.sc_machine.specs.declared.stop.Stop.TheVariants as stops
 use Rattle.sc_machine.specs.Schedule.{stopped}
-use Rattle.sc_machine.specs.ThreadStep.{Thread, Stands, now, settled, answered, stop_in}
+use Rattle.sc_machine.specs.ThreadStep.{Thread, Stands, now, stop_in}
 use Rattle.sc_machine.specs.ThreadRun.{IsShared}
 use Rattle.interleavings.specs.declared.event.Event.{Event}
 use Rattle.interleavings.specs.declared.event.Event.TheVariants as events
 use Rattle.interleavings.specs.declared.event.LogEntry.{LogEntry}
-use Rattle.interleavings.specs.Events.{read_of}
-use Rattle.interleavings.specs.Recording.{word_given}
+use Rattle.interleavings.specs.Recording.{behind}
 use Rattle.interleavings.specs.TraceLists.{TraceLists, events_of, with_event_of}
 use Rattle.interleavings.specs.Following.{Met, Makes, Over, Off, Followed, met_of, on_met, event_before, follow_from, place_after, turns_after}
 use Rattle.thread_rerun.specs.declared.follower.Follower.{Follower}
@@ -83,7 +82,7 @@ met_is m tells this that = sym (same_met m) ∙ ap told_met (sym that ∙ this)
 -- one turn of following, by what is met where the thread stands
 module _ (p : Listing) (fuel t : ℕ) (log : List LogEntry) (place : ℕ) (turns : ℕ → ℕ) (s : Thread) (stop : Stop) (next : Option LogEntry) where
   abbrev goes : ℕ → Event → Result Followed ℕ
-  goes n event = follow_from p fuel t log n (place_after event place) (turns_after event turns) (settled p fuel t (answered p fuel t (word_given (read_of event)) s))
+  goes n event = follow_from p fuel t log n (place_after event place) (turns_after event turns) (behind p fuel t event s)
 
   turn_of : (n : ℕ) (m : Met) → now p t s ≡ Stands stop → next ≡ slice_get log place → met_of stop next turns ≡ m → follow_from p fuel t log (suc n) place turns s ≡ on_met place s (goes n) m
   unfolding follow_from
@@ -126,13 +125,12 @@ module _ (old half : Follower) (log : List LogEntry) (t : ℕ) (before sofar : T
       let left : half.run.made < fuel = f.fuel_left (suits_shared half.stop event fits) in
       let k = is_more (fuel - half.run.made) going.n going.enough in
       let es : List Event = going.so_far ++ event ∷ [] in
-      let word : ℕ = word_given (read_of event) in
-      let s : Thread = settled p fuel t (answered p fuel t word (thread_in half)) in
+      let s : Thread = behind p fuel t event (thread_in half) in
       let same : thread_in new ≡ s
       = gone.thread
-      ∙ ap (λ q. settled q half.run.fuel half.run.thread (answered q half.run.fuel half.run.thread word (thread_in half))) f.program
-      ∙ ap (λ limit. settled p limit half.run.thread (answered p limit half.run.thread word (thread_in half))) f.fuel_is
-      ∙ ap (λ u. settled p fuel u (answered p fuel u word (thread_in half))) f.thread in
+      ∙ ap (λ q. behind q half.run.fuel half.run.thread event (thread_in half)) f.program
+      ∙ ap (λ limit. behind p limit half.run.thread event (thread_in half)) f.fuel_is
+      ∙ ap (λ u. behind p fuel u event (thread_in half)) f.thread in
       let traces : with_event_of sofar t event ≡ with_events before t (going.so_far ++ event ∷ []) = ap (λ tr. with_event_of tr t event) going.traces ∙ with_one before t going.so_far event inside in
       record {
         follower = subst (λ (q : Listing). IsFollower q fuel t new) f.program (subst (λ (limit : ℕ). IsFollower half.run.program limit t new) f.fuel_is (subst (λ (u : ℕ). IsFollower half.run.program half.run.fuel u new) f.thread gone.follower));

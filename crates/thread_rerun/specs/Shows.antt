@@ -1,16 +1,15 @@
 -- What the code keeps and answers, beside what following says. Only private clauses cite this module.
-use Rattle.std.specs.Prelude.{◌≡◌, ℕ, ◌+◌, ◌-◌, ◌*◌, ◌<◌, ◌≤◌, List, [], ◌∷◌, ◌++◌, length, map, drop, replicate, Option, Some, None, Result, Ok, Err, slice_index, slice_set}
+use Rattle.std.specs.Prelude.{◌≡◌, ℕ, ◌+◌, ◌-◌, ◌*◌, ◌<◌, ◌≤◌, List, [], ◌∷◌, ◌++◌, length, map, drop, replicate, Result, Ok, Err, slice_index, slice_set}
 use Rattle.stride_isa.specs.Listing.{Listing, cell_count, starts_of}
 use Rattle.sc_machine.specs.declared.stop.Stop.{Stop}
 use Rattle.sc_machine.specs.declared.stop.Stop.TheVariants as stops
-use Rattle.sc_machine.specs.ThreadStep.{Thread, Stands, now, settled, answered, end_of}
+use Rattle.sc_machine.specs.ThreadStep.{Thread, Stands, now, end_of}
 use Rattle.sc_machine.specs.ThreadRun.{IsShared, NamesCell, state}
 use Rattle.sc_machine.specs.Schedule.{stopped}
 use Rattle.interleavings.specs.declared.event.Event.{Event}
 use Rattle.interleavings.specs.declared.event.Event.TheVariants as events
 use Rattle.interleavings.specs.declared.event.LogEntry.{LogEntry}
-use Rattle.interleavings.specs.Events.{read_of}
-use Rattle.interleavings.specs.Recording.{word_given}
+use Rattle.interleavings.specs.Recording.{behind}
 use Rattle.interleavings.specs.TraceLists.{TraceLists, events_of}
 use Rattle.interleavings.specs.Following.{Met, Makes, Over, Off, Divergence, Followed, follow, follow_all, follow_all_from, follow_from, place_after, turns_after}
 use Rattle.thread_rerun.specs.Rerunning.{Again, rerun_seen}
@@ -36,11 +35,6 @@ HasMonitor stop = Unit {0}
 abbrev pub MonitorBelow : Event → Type 0
 MonitorBelow (events.Enter monitor turn) = monitor < 64
 MonitorBelow event = Unit {0}
-
--- the word that an event gives its thread
-abbrev pub word_in : Event → Option ℕ
-word_in (events.Read cell value bound) = Some value
-word_in event = None
 
 -- the event is one of this shared instruction
 abbrev pub Suits : Stop → Event → Type 0
@@ -80,7 +74,7 @@ no_turns m = 0
 -- the follower has gone on behind this event
 pub record IsGone (old new : Follower) (event : Event) : Type 0 where
   pub follower : IsFollower old.run.program old.run.fuel old.run.thread new
-  pub thread : thread_in new ≡ settled old.run.program old.run.fuel old.run.thread (answered old.run.program old.run.fuel old.run.thread (word_given (read_of event)) (thread_in old))
+  pub thread : thread_in new ≡ behind old.run.program old.run.fuel old.run.thread event (thread_in old)
   pub place : new.place ≡ place_after event old.place
   pub turns : turns_in new ≡ turns_after event (turns_in old)
   pub made : old.run.made < new.run.made

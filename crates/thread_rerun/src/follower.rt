@@ -1,7 +1,7 @@
 //! One thread that is run again.
 ghost use Rattle.std.specs.Prelude.{◌≡◌, ◌<◌, ◌≤◌, IfOk, length, slice_index};
 ghost use Rattle.interleavings.specs.Following.{place_after, turns_after};
-ghost use Rattle.thread_rerun.specs.Shows.{MonitorBelow, word_in};
+ghost use Rattle.thread_rerun.specs.Shows.{MonitorBelow};
 
 use interleavings::Event;
 use sc_machine::{End, Stop, ThreadRun};
@@ -41,20 +41,6 @@ fn keep_turn(turns: &mut [u32; 64], event: Event)
 {
     if let Event::Enter { mon, turn } = event {
         turns[mon as usize] = turn;
-    }
-}
-
-// The word that an event gives its thread: that of a read.
-fn word_read(event: Event) -> Option<u64>
-    ensures { result ≡ word_in event }
-{
-    match event {
-        Event::Read {
-            cell: _,
-            value,
-            bound: _,
-        } => Some(value),
-        _ => None,
     }
 }
 
@@ -99,7 +85,7 @@ impl<'p> Follower<'p> {
     {
         self.place = next_place(self.place, event);
         keep_turn(&mut self.turns, event);
-        self.run.answer(word_read(event));
+        self.run.answer(event.word());
         self.stop = self.run.local(&mut self.printed);
     }
 

@@ -1,12 +1,12 @@
 //! Rows of `rerun`: threads that are run again from logs.
 
 use assembler::assemble;
-use interleavings::LogEntry;
+use interleavings::{LogEntry, drive};
 use sc_machine::{End, Trap};
 use std::alloc::Global;
 use std::test::Fail;
 use stride_base::List;
-use stride_isa::check;
+use stride_isa::{Checked, check};
 use thread_rerun::{Rerun, RerunError, rerun};
 
 /// One thread writes 4 into a variable, reads it and prints what it read.
@@ -31,16 +31,21 @@ const fn enter(turn: u32) -> LogEntry {
     LogEntry::Enter { turn }
 }
 
+/// The program of a text.
+fn program_of(alloc: Global, text: &[u8]) -> Result<Checked, Fail> {
+    if text.len() > 1000 {
+        return Err("a long text")?;
+    }
+    Ok(check(alloc, assemble(alloc, text)?)?)
+}
+
 /// The threads of a text run again by these logs, each with at most a hundred instructions.
 fn run_again(
     alloc: Global,
     text: &[u8],
     logs: &[&[LogEntry]],
 ) -> Result<Result<Rerun, RerunError>, Fail> {
-    if text.len() > 1000 {
-        return Err("a long text")?;
-    }
-    let program = check(alloc, assemble(alloc, text)?)?;
+    let program = program_of(alloc, text)?;
     let mut lists = List::new(alloc);
     for log in logs {
         let mut list = List::new(alloc);
@@ -100,5 +105,40 @@ fn a_log_that_parts_from_its_thread_is_named(rt: HostRuntime) -> Result<(), Fail
     assert_eq!(rt; log_more, at(2, 0));
     let log_less = parted(rt.alloc(), &[&[read(0, 1)]])?;
     assert_eq!(rt; log_less, at(1, 0));
+    Ok(())
+}
+
+/// The threads of a text recorded by an order of atomic steps, and run again by the logs of this recording.
+fn record_and_run_again(alloc: Global, text: &[u8], order: &[u8]) -> Result<Rerun, Fail> {
+    if order.len() > 1000 {
+        return Err("a long order")?;
+    }
+    let program = program_of(alloc, text)?;
+    let driven = drive(alloc, &program, 100, 3, order)?;
+    Ok(rerun(alloc, &program, 100, &driven.logs)?)
+}
+
+#[test]
+fn recorded_threads_run_again(rt: HostRuntime) -> Result<(), Fail> {
+    let rows: [(&[u8], &[u8], &[u8], End); 4] = [
+        (WRITING, &[0, 0, 0, 0, 0, 0, 0, 0], b"4\n", End::Halted),
+        (WRITING, &[0], b"", End::Stopped { pc: 2 }),
+        (WRITING, &[], b"", End::Stopped { pc: 1 }),
+        (
+            TRAPPING,
+            &[0, 0, 0, 0, 0],
+            b"",
+            End::Trapped {
+                trap: Trap::DivZero,
+                pc: 5,
+            },
+        ),
+    ];
+    for (text, order, output, end) in rows {
+        let again = record_and_run_again(rt.alloc(), text, order)?;
+        assert!(rt; is_one(&again, output, end));
+    }
+    let reader = record_and_run_again(rt.alloc(), PUBLISH, &[1, 1, 1, 1, 0, 0, 1, 0, 1])?;
+    assert!(rt; reader.outputs.get(0).as_slice() == b"7\n".as_slice());
     Ok(())
 }
