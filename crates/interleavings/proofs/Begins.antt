@@ -1,20 +1,17 @@
 -- The driver at its start.
-use Rattle.std.proofs.Common.{◌≡◌, ℕ, ◌+◌, ◌<◌, ◌≤◌, ◌∙◌, inl, inr, if◌then◌else◌, nat_lt, List, [], ◌∷◌, ◌++◌, length, map, slice_index, get_or, refl, sym, ap, subst, arith, length-append}
+use Rattle.std.proofs.Common.{◌≡◌, ℕ, ◌+◌, ◌<◌, ◌≤◌, ◌∙◌, if◌then◌else◌, nat_lt, List, [], ◌∷◌, ◌++◌, length, map, slice_index, get_or, refl, sym, ap, subst, arith}
 use Rattle.std.specs.List.{range_with_len}
-use Rattle.std.proofs.lemmas.Bool.{cases_lt}
-use Rattle.std.proofs.lemmas.List.{map-append}
-use Rattle.std.proofs.Math.ListN.{get_or-append}
-use Rattle.std.proofs.Math.Seq.{get_or-append_seam}
+use Rattle.std.proofs.lemmas.List.FromFn.{get_or-map-range_with_len, length-map-range_with_len, map-range_with_len_more}
 use Rattle.stride_isa.specs.Listing.{Listing, starts_of}
+use Rattle.sc_machine.specs.StandingThread.{IsThreadOf, Standing, started_at}
 use Rattle.sc_machine.specs.ThreadStep.{start_thread, settled}
 use Rattle.interleavings.specs.declared.core_words.Core.{Core}
 use Rattle.interleavings.specs.declared.driver.Driver.{Driver}
 use Rattle.interleavings.specs.declared.kind.Kind.TheVariants as by
 use Rattle.interleavings.specs.declared.layout.Layout.{Layout}
-use Rattle.interleavings.specs.declared.runner.Runner.{Runner}
 use Rattle.interleavings.specs.AtomicStep.{SharedWord, Value}
 use Rattle.interleavings.specs.CoreShows.{ShowsState, HasSameShape, CanHappen}
-use Rattle.interleavings.specs.DriverShows.{AreRunners, CanDraw, IsRunner, IsStartCore, Shows, thread_in}
+use Rattle.interleavings.specs.DriverShows.{CanDraw, IsStartCore, Shows}
 use Rattle.interleavings.specs.History.{Step, State, after, happens}
 use Rattle.interleavings.specs.Layout.{row_length}
 use Rattle.interleavings.specs.Recording.{Setting, begun, draws}
@@ -59,23 +56,22 @@ can_draw core now threads who can shape inside shows = record {
 pub same_shape : (one two three : Core) → HasSameShape one two → HasSameShape two three → HasSameShape one three
 same_shape one two three a b = record { layout = b.layout ∙ a.layout; words = b.words ∙ a.words; people = b.people ∙ a.people }
 
-pub runners_more : (p : Listing) (fuel n : ℕ) (runners : List Runner) (runner : Runner) → AreRunners p fuel n runners → IsRunner p fuel n runner → thread_in runner ≡ settled p fuel n start_thread → AreRunners p fuel (n + 1) (runners ++ runner ∷ [])
-runners_more p fuel n runners runner are is settles = record {
-  long = omega (arith, length-append runners (runner ∷ []), are.long);
-  settles = map-append thread_in runners (runner ∷ [])
-      ∙ ap (λ ts. ts ++ thread_in runner ∷ []) are.settles
-      ∙ ap (λ t. map (λ t. settled p fuel t start_thread) (range_with_len 0 n) ++ t ∷ []) settles
-      ∙ sym (map-append (λ t. settled p fuel t start_thread) (range_with_len 0 n) (n ∷ []))
-      ∙ ap (map (λ t. settled p fuel t start_thread)) (sym (range_more n));
-  each = λ t d below. elim (cases_lt t n) [
-    | inl lt ↦ subst (λ (q : Runner). IsRunner p fuel t q) (sym (get_or-append runners (runner ∷ []) d t (omega (arith, are.long)))) (are.each t d lt)
-    | inr ge ↦
-        let same : t ≡ length runners = omega (arith, are.long) in
-        let number : n ≡ t = omega arith in
-        let here : get_or (runners ++ runner ∷ []) t d ≡ runner = ap (λ k. get_or (runners ++ runner ∷ []) k d) same ∙ get_or-append_seam runners runner [] d in
-        subst (λ (k : ℕ). IsRunner p fuel k (get_or (runners ++ runner ∷ []) t d)) number (subst (λ (q : Runner). IsRunner p fuel n q) (sym here) is)
-  ];
-}
+-- one more thread after its local start
+pub threads_more : (p : Listing) (fuel n : ℕ) (threads threads' : List Standing) (thread : Standing) → threads' ≡ threads ++ thread ∷ [] → threads ≡ map (started_at p fuel) (range_with_len 0 n) → thread ≡ started_at p fuel n → threads' ≡ map (started_at p fuel) (range_with_len 0 (n + 1))
+threads_more p fuel n threads threads' thread more are is =
+    more
+    ∙ ap (λ ts. ts ++ thread ∷ []) are
+    ∙ ap (λ t. map (started_at p fuel) (range_with_len 0 n) ++ t ∷ []) is
+    ∙ sym (map-range_with_len_more (started_at p fuel) 0 n n (omega arith))
+
+-- each of them is the thread of its number
+each_started : (p : Listing) (fuel n t : ℕ) (d : Standing) → t < n → IsThreadOf p fuel t (get_or (map (started_at p fuel) (range_with_len 0 n)) t d)
+each_started p fuel n t d below = subst (λ (s : Standing). IsThreadOf p fuel t s) (sym (get_or-map-range_with_len (started_at p fuel) 0 n t t d below (omega arith))) (record { program = refl; fuel_is = refl; which = refl })
+
+-- their states
+started_states : (p : Listing) (fuel : ℕ) (ns : List ℕ) → map (λ t. settled p fuel t start_thread) ns ≡ map (λ (s : Standing). s.state) (map (started_at p fuel) ns)
+started_states p fuel [] = refl
+started_states p fuel (t ∷ ns) = ap (λ rest. settled p fuel t start_thread ∷ rest) (started_states p fuel ns)
 
 abbrev setting : Listing → ℕ → ℕ → Setting
 setting p fuel patience = record { program = p; fuel = fuel; patience = patience }
@@ -84,16 +80,19 @@ pub start_draws : (p : Listing) (core : Core) (threads : ℕ) → IsStartCore p 
 unfolding after
 start_draws p core threads start count few = record { whole = start.whole; people = start.people ∙ sym count; few = few; starts = starts_of p.decls; shows = start.shows }
 
-pub driver_begun : (driver : Driver) (core : Core) (threads : ℕ) → IsStartCore driver.program.now core → threads ≡ length driver.program.now.threads → threads ≤ 16 → HasSameShape core driver.core → ((starts : List ℕ) → ShowsState core (after starts []) → ShowsState driver.core (drawn_by starts threads)) → AreRunners driver.program.now driver.fuel (length driver.program.now.threads) driver.runners.items → Shows (setting driver.program.now driver.fuel driver.patience) driver (begun (setting driver.program.now driver.fuel driver.patience))
+length_started : (driver : Driver) → driver.threads.items ≡ map (started_at driver.program.now driver.fuel) (range_with_len 0 (length driver.program.now.threads)) → length driver.threads.items ≡ length driver.program.now.threads
+length_started driver started = ap length started ∙ length-map-range_with_len (started_at driver.program.now driver.fuel) 0 (length driver.program.now.threads)
+
+pub driver_begun : (driver : Driver) (core : Core) (threads : ℕ) → IsStartCore driver.program.now core → threads ≡ length driver.program.now.threads → threads ≤ 16 → HasSameShape core driver.core → ((starts : List ℕ) → ShowsState core (after starts []) → ShowsState driver.core (drawn_by starts threads)) → driver.threads.items ≡ map (started_at driver.program.now driver.fuel) (range_with_len 0 (length driver.program.now.threads)) → Shows (setting driver.program.now driver.fuel driver.patience) driver (begun (setting driver.program.now driver.fuel driver.patience))
 unfolding begun after
-driver_begun driver core threads start count few shape shows runners = record {
+driver_begun driver core threads start count few shape shows started = record {
   program = refl;
   fuel = refl;
   patience = refl;
   few = omega (arith, count, few);
-  count = runners.long;
-  each = λ t r below. runners.each t r (omega (arith, runners.long));
-  threads = sym runners.settles;
+  count = length_started driver started;
+  each = λ t s below. subst (λ (xs : List Standing). IsThreadOf driver.program.now driver.fuel t (get_or xs t s)) (sym started) (each_started driver.program.now driver.fuel (length driver.program.now.threads) t s (omega (arith, length_started driver started)));
+  threads = started_states driver.program.now driver.fuel (range_with_len 0 (length driver.program.now.threads)) ∙ sym (ap (map (λ (s : Standing). s.state)) started);
   whole = shape.words ∙ start.whole ∙ sym (ap (λ (l : Layout). row_length l.cells l.monitors) shape.layout);
   cells = ap (λ (l : Layout). l.cells) shape.layout ∙ start.cells;
   monitors = ap (λ (l : Layout). l.monitors) shape.layout ∙ start.monitors;

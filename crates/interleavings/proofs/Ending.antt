@@ -1,24 +1,22 @@
 -- What a recording keeps of a run.
-use Rattle.std.proofs.Common.{◌≡◌, ℕ, zero, suc, ◌+◌, ◌-◌, ◌*◌, ◌<◌, ◌≤◌, ◌∙◌, true, false, if◌then◌else◌, nat_le, List, [], ◌∷◌, ◌++◌, length, map, take, get_or, set, slice_index, Bool, refl, sym, ap, subst, arith, add-one, Option, Some, None}
+use Rattle.std.proofs.Common.{◌≡◌, ℕ, zero, suc, ◌+◌, ◌*◌, ◌<◌, ◌≤◌, ◌∙◌, true, false, if◌then◌else◌, nat_le, List, [], ◌∷◌, ◌++◌, length, map, get_or, slice_index, Bool, refl, sym, ap, arith, add-one, Option, Some, None}
 use Rattle.std.specs.List.{range_with_len}
 use Rattle.std.specs.Option.{option_map}
 use Rattle.std.proofs.lemmas.Bool.Decides.{nat_tests}
 use Rattle.std.proofs.lemmas.Grind.{get_or_default_zero}
-use Rattle.std.proofs.lemmas.List.{take_more, map-append}
+use Rattle.std.proofs.lemmas.List.{map-append}
 use Rattle.stride_base.specs.Listed.{Listed}
-use Rattle.stride_isa.specs.Listing.{Listing, cell_count}
-use Rattle.sc_machine.specs.declared.end.End.{End}
-use Rattle.sc_machine.specs.ThreadStep.{Thread, now, end_of}
-use Rattle.sc_machine.specs.ThreadRun.{NamesCell}
+use Rattle.stride_isa.specs.Listing.{cell_count}
+use Rattle.sc_machine.specs.StandingThread.{Standing}
+use Rattle.sc_machine.specs.ThreadStep.{Thread, end_of}
 use Rattle.sc_machine.specs.Schedule.{stopped, thread_numbers}
 use Rattle.interleavings.specs.declared.acts.Acts.{Acts}
 use Rattle.interleavings.specs.declared.driven.Driven.{Driven}
 use Rattle.interleavings.specs.declared.driver.Driver.{Driver}
 use Rattle.interleavings.specs.declared.event.LogEntry.{LogEntry}
-use Rattle.interleavings.specs.declared.runner.Runner.{Runner}
 use Rattle.interleavings.specs.AtomicStep.{SharedWord, Value}
 use Rattle.interleavings.specs.DrivenSeen.{recording_seen}
-use Rattle.interleavings.specs.DriverShows.{AreStanding, CanGo, IsRunner, Makes, Shows, settled_all, thread_in}
+use Rattle.interleavings.specs.DriverShows.{CanGo, Makes, Shows, settled_all}
 use Rattle.interleavings.specs.Events.{log_of}
 use Rattle.interleavings.specs.Layout.{index_of}
 use Rattle.interleavings.specs.Recording.{Drive, Recording, Setting, acts_of, state_of, advance_all, begun, driven, recording_of, settle_all, stranger, whole_run}
@@ -75,21 +73,6 @@ values_more row cells i place x values values' more so_far where_is inside read 
     ∙ ap (λ y. map (λ cell. slice_index row (index_of cells (Value cell))) (range_with_len 0 i) ++ y ∷ []) here
     ∙ sym (ap (map (λ cell. slice_index row (index_of cells (Value cell)))) (range_more i) ∙ map-append (λ cell. slice_index row (index_of cells (Value cell))) (range_with_len 0 i) (i ∷ []))
 
-abbrev printed_of : Runner → Listed ℕ
-printed_of runner = runner.printed
-
-pub printed_same : (runners : List Runner) (k : ℕ) (old new : Runner) → k < length runners → old ≡ get_or runners k old → new.printed ≡ old.printed → map printed_of (set runners k new) ≡ map printed_of runners
-printed_same [] k old new lt is same = absurd (omega arith)
-printed_same (r ∷ rs) zero old new lt is same = ap (λ x. x ∷ map printed_of rs) (same ∙ ap printed_of is)
-printed_same (r ∷ rs) (suc k) old new lt is same = ap (λ xs. printed_of r ∷ xs) (printed_same rs k old new (omega arith) is same)
-
-pub ends_more : (start : List Runner) (i : ℕ) (runner : Runner) (end : End) (ends ends' : List End) → i < length start → ends' ≡ ends ++ end ∷ [] → ends ≡ map end_of (map thread_in (take i start)) → end ≡ end_of (thread_in runner) → runner ≡ get_or start i runner → ends' ≡ map end_of (map thread_in (take (i + 1) start))
-ends_more start i runner end ends ends' inside more so_far is here =
-    more
-    ∙ ap (λ xs. xs ++ end ∷ []) so_far
-    ∙ ap (λ e. map end_of (map thread_in (take i start)) ++ e ∷ []) (is ∙ ap (λ r. end_of (thread_in r)) here)
-    ∙ sym (ap (λ xs. map end_of (map thread_in xs)) (take_more start i runner inside) ∙ ap (map end_of) (map-append thread_in (take i start) (get_or start i runner ∷ [])) ∙ map-append end_of (map thread_in (take i start)) (thread_in (get_or start i runner) ∷ []))
-
 by_index : {X Y : Type 0} (f : X → Y) (h : ℕ → Y) (xs : List X) (from : ℕ) → ((k : ℕ) (d : X) → k < length xs → f (get_or xs k d) ≡ h (from + k)) → map f xs ≡ map h (range_with_len from (length xs))
 by_index f h [] from same = refl
 by_index f h (x ∷ xs) from same =
@@ -103,16 +86,16 @@ in_range f h from (suc n) same =
     ap (λ y. y ∷ map f (range_with_len (from + 1) n)) (same from (omega arith))
     ∙ ap (λ ys. h from ∷ ys) (in_range f h (from + 1) n (λ k lt. same k (omega arith)))
 
-outputs_kept : (runners : List Runner) → map (λ (output : Listed ℕ). output.items) (map printed_of runners) ≡ map (λ (s : Thread). s.out) (map stopped (map thread_in runners))
+outputs_kept : (threads : List Standing) → map (λ (s : Standing). s.state.out) threads ≡ map (λ (s : Thread). s.out) (map stopped (map (λ (s : Standing). s.state) threads))
 outputs_kept [] = refl
-outputs_kept (r ∷ rs) = ap (λ xs. r.printed.items ∷ xs) (outputs_kept rs)
+outputs_kept (s ∷ ss) = ap (λ xs. s.state.out ∷ xs) (outputs_kept ss)
 
-ends_kept : (threads : List Thread) → map end_of threads ≡ map end_of (map stopped threads)
+ends_kept : (threads : List Standing) → map (λ (s : Standing). end_of s.state) threads ≡ map end_of (map stopped (map (λ (s : Standing). s.state) threads))
 ends_kept [] = refl
-ends_kept (s ∷ ss) = ap (λ xs. end_of s ∷ xs) (ends_kept ss)
+ends_kept (s ∷ ss) = ap (λ xs. end_of s.state ∷ xs) (ends_kept ss)
 
 -- the four parts of a recording
-pub recorded_parts : (g : Setting) (driver : Driver) (d : Drive) (r : Driven) → Shows g driver d → map (λ (log : Listed LogEntry). log.items) r.logs.items ≡ map (λ (acts : Acts). log_of acts.events) driver.core.people.items → r.outputs.items ≡ map printed_of driver.runners.items → r.ends.items ≡ map end_of (map thread_in driver.runners.items) → r.last_values.items ≡ map (λ cell. slice_index driver.core.words.items (index_of driver.core.layout.cells (Value cell))) (range_with_len 0 driver.core.layout.cells) → recording_seen r ≡ recording_of g (record { steps = d.steps; threads = map stopped d.threads })
+pub recorded_parts : (g : Setting) (driver : Driver) (d : Drive) (r : Driven) → Shows g driver d → map (λ (log : Listed LogEntry). log.items) r.logs.items ≡ map (λ (acts : Acts). log_of acts.events) driver.core.people.items → map (λ (output : Listed ℕ). output.items) r.outputs.items ≡ map (λ (s : Standing). s.state.out) driver.threads.items → r.ends.items ≡ map (λ (s : Standing). end_of s.state) driver.threads.items → r.last_values.items ≡ map (λ cell. slice_index driver.core.words.items (index_of driver.core.layout.cells (Value cell))) (range_with_len 0 driver.core.layout.cells) → recording_seen r ≡ recording_of g (record { steps = d.steps; threads = map stopped d.threads })
 unfolding recording_of
 recorded_parts g driver d r shows logs outputs ends values =
     let people : List Acts = driver.core.people.items in
@@ -124,8 +107,8 @@ recorded_parts g driver d r shows logs outputs ends values =
     (λ k e lt. let same : k ≡ 0 + k = omega arith in ap (λ (a : Acts). log_of a.events) (shows.state.people k e lt) ∙ ap (λ n. log_of (acts n).events) same)
     ∙ ap (λ n. map (λ t. log_of (acts t).events) (range_with_len 0 n)) shows.people in
     let outputs_are : map (λ (output : Listed ℕ). output.items) r.outputs.items ≡ map (λ (s : Thread). s.out) (map stopped d.threads) =
-    ap (map (λ (output : Listed ℕ). output.items)) outputs ∙ outputs_kept driver.runners.items ∙ ap (λ ts. map (λ (s : Thread). s.out) (map stopped ts)) (sym shows.threads) in
-    let ends_are : r.ends.items ≡ map end_of (map stopped d.threads) = ends ∙ ends_kept (map thread_in driver.runners.items) ∙ ap (λ ts. map end_of (map stopped ts)) (sym shows.threads) in
+    outputs ∙ outputs_kept driver.threads.items ∙ ap (λ ts. map (λ (s : Thread). s.out) (map stopped ts)) (sym shows.threads) in
+    let ends_are : r.ends.items ≡ map end_of (map stopped d.threads) = ends ∙ ends_kept driver.threads.items ∙ ap (λ ts. map end_of (map stopped ts)) (sym shows.threads) in
     let values_are : r.last_values.items ≡ map (λ cell. words (Value cell)) (range_with_len 0 (cell_count g.program.decls)) =
     values
     ∙ in_range (λ cell. slice_index driver.core.words.items (index_of driver.core.layout.cells (Value cell))) (λ cell. words (Value cell)) 0 driver.core.layout.cells (λ k lt. shows.state.words (Value k) (omega arith))
@@ -134,16 +117,6 @@ recorded_parts g driver d r shows logs outputs ends values =
     ∙ ap (λ x. record { logs = map (λ t. log_of (acts t).events) (thread_numbers g.program); outputs = x; ends = r.ends.items; last_values = r.last_values.items }) outputs_are
     ∙ ap (λ x. record { logs = map (λ t. log_of (acts t).events) (thread_numbers g.program); outputs = map (λ (s : Thread). s.out) (map stopped d.threads); ends = x; last_values = r.last_values.items }) ends_are
     ∙ ap (λ x. record { logs = map (λ t. log_of (acts t).events) (thread_numbers g.program); outputs = map (λ (s : Thread). s.out) (map stopped d.threads); ends = map end_of (map stopped d.threads); last_values = x }) values_are
-
-standing : (p : Listing) (fuel t : ℕ) (r : Runner) → IsRunner p fuel t r → IsRunner r.run.program r.run.fuel r.run.thread r
-standing p fuel t r is = record {
-  program = refl;
-  thread = refl;
-  fuel_is = refl;
-  stands = ap (λ n. now r.run.program n (thread_in r)) is.thread ∙ ap (λ q. now q t (thread_in r)) is.program ∙ is.stands;
-  cell = subst (λ (q : Listing). NamesCell q r.stop) (sym is.program) is.cell;
-  room = subst (λ (f : ℕ). 21 * (f - r.run.made) ≤ r.printed.spare) (sym is.fuel_is) is.room;
-}
 
 -- what the whole of a recording's code came to
 module _ (g : Setting) (order : List ℕ) (start followed settled : Driver) (begins : Shows g start (begun g)) where
@@ -161,9 +134,6 @@ module _ (g : Setting) (order : List ℕ) (start followed settled : Driver) (beg
 
   pub settled_shows : Makes (λ g. advance_all g order) start followed → Makes settled_all followed settled → Shows g settled (settled_all g (advance_all g order (begun g)))
   settled_shows follows settles = settles g (advance_all g order (begun g)) (follows g (begun g) begins)
-
-  pub all_standing : Makes (λ g. advance_all g order) start followed → Makes settled_all followed settled → AreStanding settled.runners.items
-  all_standing follows settles = λ t r lt. standing g.program g.fuel t (get_or settled.runners.items t r) ((settled_shows follows settles).each t r lt)
 
   pub whole_driven : (r : Recording) → r ≡ recording_of g (record { steps = (settled_all g (advance_all g order (begun g))).steps; threads = map stopped (settled_all g (advance_all g order (begun g))).threads }) → r ≡ driven g order
   unfolding driven whole_run settle_all

@@ -1,36 +1,23 @@
 -- The driver of `drive` beside the run that it shows. Only private clauses cite this module.
-use Rattle.std.specs.Prelude.{◌≡◌, ℕ, ◌+◌, ◌-◌, ◌*◌, ◌<◌, ◌≤◌, Bool, true, false, List, [], length, map, Option, Some, None}
-use Rattle.std.specs.List.{slice_index_or, range_with_len}
+use Rattle.std.specs.Prelude.{◌≡◌, ℕ, ◌+◌, ◌<◌, ◌≤◌, Bool, true, false, List, [], length, map, Option, Some, None}
+use Rattle.std.specs.List.{slice_index_or}
 use Rattle.stride_isa.specs.Listing.{Listing, cell_count, starts_of}
 use Rattle.sc_machine.specs.declared.stop.Stop.{Stop}
 use Rattle.sc_machine.specs.declared.stop.Stop.TheVariants.{Read, Write, Enter, Exit, Ended}
-use Rattle.sc_machine.specs.ThreadStep.{Thread, Stands, start_thread, now, settled, answered, stop_of}
-use Rattle.sc_machine.specs.ThreadRun.{NamesCell, TakesWord, state}
-use Rattle.sc_machine.specs.Schedule.{stopped, thread_numbers}
+use Rattle.sc_machine.specs.StandingThread.{IsThreadOf, Standing}
+use Rattle.sc_machine.specs.ThreadStep.{stop_of}
+use Rattle.sc_machine.specs.ThreadRun.{TakesWord}
+use Rattle.sc_machine.specs.Schedule.{thread_numbers}
 use Rattle.interleavings.specs.declared.acts.OddLooks.{OddLooks}
 use Rattle.interleavings.specs.declared.core_words.Core.{Core}
 use Rattle.interleavings.specs.declared.driver.Driver.{Driver}
 use Rattle.interleavings.specs.declared.event.Event.{Event}
-use Rattle.interleavings.specs.declared.runner.Runner.{Runner}
 use Rattle.interleavings.specs.declared.driver.Rest.{Rest}
 use Rattle.interleavings.specs.declared.driver.Rest.TheVariants as rests
 use Rattle.interleavings.specs.Events.{word_in}
 use Rattle.interleavings.specs.History.{start_state, after}
 use Rattle.interleavings.specs.Recording.{Drive, Setting, state_of, acts_of, thread_of, thread_after, advance_while, for_each, has_turn, is_loaded, is_exit, write_finished, read_finished, exits_made}
 use Rattle.interleavings.specs.CoreShows.{ShowsState, HasWholeRow}
-
--- the thread that a runner runs
-abbrev pub thread_in : Runner → Thread
-thread_in runner = state runner.run runner.printed.items
-
--- it runs this thread of the program with this fuel, and stands where it says, with room for what it may print
-pub record IsRunner (p : Listing) (fuel t : ℕ) (runner : Runner) : Type 0 where
-  pub program : runner.run.program ≡ p
-  pub thread : runner.run.thread ≡ t
-  pub fuel_is : runner.run.fuel ≡ fuel
-  pub stands : now p t (thread_in runner) ≡ Stands runner.stop
-  pub cell : NamesCell p runner.stop
-  pub room : 21 * (fuel - runner.run.made) ≤ runner.printed.spare
 
 -- whether a stop is an end
 abbrev pub is_end : Stop → Bool
@@ -45,26 +32,9 @@ abbrev pub SuitsStop : Stop → Option Event → Type 0
 SuitsStop stop None = Unit {0}
 SuitsStop stop (Some event) = TakesWord stop (word_in event)
 
--- the runner runs the same thread and is at this state of it
-pub record IsAt (old new : Runner) (s : Thread) : Type 0 where
-  pub runner : IsRunner old.run.program old.run.fuel old.run.thread new
-  pub thread : thread_in new ≡ s
-
--- the runner's thread was given a word at its shared instruction, and went on to where it stands then
-abbrev pub IsAnsweredBy : Runner → Runner → ℕ → Type 0
-IsAnsweredBy old new word = IsAt old new (settled old.run.program old.run.fuel old.run.thread (answered old.run.program old.run.fuel old.run.thread word (thread_in old)))
-
--- the runner's thread was stopped at its shared instruction
-abbrev pub IsGivenUp : Runner → Runner → Type 0
-IsGivenUp old new = IsAt old new (stopped (thread_in old))
-
--- the setting of a run of this runner
-abbrev pub setting_at : Runner → ℕ → Setting
-setting_at runner patience = record { program = runner.run.program; fuel = runner.run.fuel; patience = patience }
-
--- the runner's thread is as it is after a step of its own
-abbrev pub GoesOn : Runner → Runner → Option Event → ℕ → Option OddLooks → Type 0
-GoesOn old new finished patience looks = IsAt old new (thread_after (setting_at old patience) old.run.thread finished looks (thread_in old))
+-- a thread after a step of its own
+abbrev pub gone_on : Standing → Option Event → ℕ → Option OddLooks → Standing
+gone_on s finished patience looks = record s { state = thread_after (record { program = s.program; fuel = s.fuel; patience = patience }) s.number finished looks s.state }
 
 -- the driver is one of this setting, and shows this run
 pub record Shows (g : Setting) (driver : Driver) (d : Drive) : Type 0 where
@@ -72,9 +42,9 @@ pub record Shows (g : Setting) (driver : Driver) (d : Drive) : Type 0 where
   pub fuel : driver.fuel ≡ g.fuel
   pub patience : driver.patience ≡ g.patience
   pub few : length g.program.threads ≤ 16
-  pub count : length driver.runners.items ≡ length g.program.threads
-  pub each : (t : ℕ) (runner : Runner) → t < length driver.runners.items → IsRunner g.program g.fuel t (slice_index_or driver.runners.items t runner)
-  pub threads : d.threads ≡ map thread_in driver.runners.items
+  pub count : length driver.threads.items ≡ length g.program.threads
+  pub each : (t : ℕ) (thread : Standing) → t < length driver.threads.items → IsThreadOf g.program g.fuel t (slice_index_or driver.threads.items t thread)
+  pub threads : d.threads ≡ map (λ (s : Standing). s.state) driver.threads.items
   pub whole : HasWholeRow driver.core
   pub cells : driver.core.layout.cells ≡ cell_count g.program.decls
   pub monitors : driver.core.layout.monitors ≡ length g.program.monitors
@@ -129,13 +99,3 @@ pub record IsStartCore (p : Listing) (core : Core) : Type 0 where
   pub monitors : core.layout.monitors ≡ length p.monitors
   pub people : length core.people.items ≡ length p.threads
   pub shows : ShowsState core (start_state (starts_of p.decls))
-
--- these are the runners of the first threads, each settled from its start
-pub record AreRunners (p : Listing) (fuel count : ℕ) (runners : List Runner) : Type 0 where
-  pub long : length runners ≡ count
-  pub settles : map thread_in runners ≡ map (λ t. settled p fuel t start_thread) (range_with_len 0 count)
-  pub each : (t : ℕ) (d : Runner) → t < count → IsRunner p fuel t (slice_index_or runners t d)
-
--- each runner stands where it says
-abbrev pub AreStanding : List Runner → Type 0
-AreStanding runners = (t : ℕ) (d : Runner) → t < length runners → IsRunner (slice_index_or runners t d).run.program (slice_index_or runners t d).run.fuel (slice_index_or runners t d).run.thread (slice_index_or runners t d)

@@ -3,18 +3,19 @@ ghost use Rattle.std.specs.Prelude.{◌≡◌, ◌<◌, ◌*◌, ◌+◌, ℕ, O
 ghost use Rattle.interleavings.specs.DriverShows.{most_steps as most};
 
 use crate::core_words::Core;
+use crate::going_on::go_on;
 use crate::next_step::{has_ended, has_turn, is_exit, is_loaded, next_step};
-use crate::runner::Runner;
+use sc_machine::StandingThread;
 use stride_base::NoMemory;
 use stride_isa::Checked;
 
-/// The runners of a program's threads over one core.
+/// The threads of a program over one core.
 #[derive(Drop)]
 pub struct Driver<'p> {
     pub program: &'p Checked,
     pub fuel: u32,
     pub patience: u32,
-    pub runners: Vec<Runner<'p>>,
+    pub threads: Vec<StandingThread<'p>>,
     pub core: Core,
 }
 
@@ -36,11 +37,11 @@ impl<'p> Driver<'p> {
 
     /// One atomic step of a thread, if it has not ended.
     pub fn advance(&mut self, thread: u32) -> Result<(), NoMemory>
-        requires thread { thread < length self.old.runners.items }
+        requires thread { thread < length self.old.threads.items }
         requires goes { CanGo self.old 1 }
         ensures { OnOk result (Makes (λ g. advance g thread) self.old self.new) }
     {
-        let stop = self.runners[thread as usize].stop;
+        let stop = self.threads[thread as usize].stop();
         if has_ended(stop) {
             return Ok(());
         }
@@ -48,14 +49,18 @@ impl<'p> Driver<'p> {
         let step = next_step(thread, stop, phase);
         let finished = self.core.happen(step)?;
         let looks = self.core.people[thread as usize].looks;
-        let runner = &mut self.runners[thread as usize];
-        runner.go_on(finished, self.patience, looks);
+        go_on(
+            &mut self.threads[thread as usize],
+            finished,
+            self.patience,
+            looks,
+        );
         Ok(())
     }
 
     /// One atomic step of the named thread for each member of the order, in turn.
     pub fn follow(&mut self, order: &[u8]) -> Result<(), NoMemory>
-        requires known { (place : ℕ) → place < length order.now → slice_index order.now place < length self.old.runners.items }
+        requires known { (place : ℕ) → place < length order.now → slice_index order.now place < length self.old.threads.items }
         requires goes { CanGo self.old (length order.now) }
         ensures { OnOk result (Makes (λ g. advance_all g order.now) self.old self.new) }
     {
@@ -67,20 +72,20 @@ impl<'p> Driver<'p> {
 
     // Whether a thread has this left.
     fn has_left(&self, rest: Rest, thread: u32) -> bool
-        requires thread { thread < length self.now.runners.items }
+        requires thread { thread < length self.now.threads.items }
         requires goes { CanGo self.now 0 }
         ensures { (g : Setting) (d : Drive) → Shows g self.now d → result ≡ is_left rest g thread d }
     {
         match rest {
             Rest::Write => has_turn(self.core.people[thread as usize].phase),
             Rest::Read => is_loaded(self.core.people[thread as usize].phase),
-            Rest::Exits => is_exit(self.runners[thread as usize].stop),
+            Rest::Exits => is_exit(self.threads[thread as usize].stop()),
         }
     }
 
     // Advances a thread until it has this left no more.
     fn finish(&mut self, rest: Rest, thread: u32) -> Result<(), NoMemory>
-        requires thread { thread < length self.old.runners.items }
+        requires thread { thread < length self.old.threads.items }
         requires goes { CanGo self.old (most rest self.old.fuel) }
         ensures { OnOk result (Makes (λ g. finished rest g thread) self.old self.new) }
     {

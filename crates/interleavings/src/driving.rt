@@ -2,13 +2,13 @@
 ghost use Rattle.std.specs.Prelude.{◌≡◌, ◌≤◌, IfOk, IfErr, None, length, map};
 ghost use Rattle.interleavings.specs.CoreShows.{HasWholeRow};
 ghost use Rattle.interleavings.specs.DrivenSeen.{IsStranger, recording_seen};
-ghost use Rattle.interleavings.specs.DriverShows.{AreStanding, Shows};
+ghost use Rattle.interleavings.specs.DriverShows.{Shows};
 ghost use Rattle.interleavings.specs.Recording.{Setting, Drive, driven, recording_of, stranger};
 ghost use Rattle.sc_machine.specs.Schedule.{stopped};
 
 use crate::driven::{DriveError, Driven};
 use crate::driver::Driver;
-use crate::results::{ends_of, last_values, logs_of, outputs_of};
+use crate::results::{end_all, last_values, logs_of};
 use crate::starting::start_driver;
 use std::alloc::Global;
 use stride_base::NoMemory;
@@ -39,15 +39,12 @@ fn stranger_in(threads: u32, order: &[u8]) -> Option<u32>
 
 // The recording of a run that the driver shows, in which each thread that has not ended is stopped.
 fn recorded(alloc: Global, driver: Driver<'_>) -> Result<Driven, NoMemory>
-    requires standing { AreStanding driver.runners.items }
-    requires whole { HasWholeRow driver.core }
+    requires { HasWholeRow driver.core }
     ensures { (g : Setting) (d : Drive) → Shows g driver.entry d → IfOk result (λ r. recording_seen r ≡ recording_of g (record { steps = d.steps; threads = map stopped d.threads })) }
 {
-    let mut runners = driver.runners;
     let logs = logs_of(alloc, &driver.core.people)?;
     let last_values = last_values(alloc, &driver.core)?;
-    let ends = ends_of(alloc, &mut runners)?;
-    let outputs = outputs_of(alloc, runners)?;
+    let (ends, outputs) = end_all(alloc, driver.threads)?;
     Ok(Driven {
         logs,
         outputs,

@@ -1,10 +1,9 @@
 //! What a recording keeps of a run that has come to its end.
-ghost use Rattle.std.specs.Prelude.{◌≡◌, map, IfOk, OnOk, slice_index};
+ghost use Rattle.std.specs.Prelude.{◌≡◌, map, IfOk, slice_index};
 ghost use Rattle.std.specs.List.{range_with_len};
 ghost use Rattle.sc_machine.specs.ThreadStep.{end_of};
 ghost use Rattle.interleavings.specs.AtomicStep.{Value};
 ghost use Rattle.interleavings.specs.CoreShows.{HasWholeRow};
-ghost use Rattle.interleavings.specs.DriverShows.{AreStanding, thread_in};
 ghost use Rattle.interleavings.specs.Events.{log_of as log};
 ghost use Rattle.interleavings.specs.Layout.{index_of};
 
@@ -12,8 +11,7 @@ use crate::acts::Acts;
 use crate::core_words::Core;
 use crate::event::{Event, LogEntry, entry_of};
 use crate::kind::Kind;
-use crate::runner::Runner;
-use sc_machine::End;
+use sc_machine::{End, StandingThread};
 use std::alloc::Global;
 use std::collections::LinkedList;
 use stride_base::{List, NoMemory};
@@ -43,29 +41,22 @@ pub fn logs_of(alloc: Global, people: &[Acts]) -> Result<List<List<LogEntry>>, N
     Ok(logs)
 }
 
-/// How each thread ends, in order of number. A thread that has not ended is stopped.
-pub fn ends_of(alloc: Global, runners: &mut Vec<Runner<'_>>) -> Result<List<End>, NoMemory>
-    requires { AreStanding runners.old.items }
-    ensures ends { IfOk result (λ ends. ends.items ≡ map end_of (map thread_in runners.old.items)) }
-    ensures printed { OnOk result (map (λ runner. runner.printed) runners.new.items ≡ map (λ runner. runner.printed) runners.old.items) }
+/// How each thread ends and what it printed, in order of number. A thread that has not ended is stopped.
+pub fn end_all(
+    alloc: Global,
+    threads: Vec<StandingThread<'_>>,
+) -> Result<(List<End>, List<List<u8>>), NoMemory>
+    ensures ends { IfOk result (λ left. left.0.items ≡ map (λ thread. end_of thread.state) threads.entry.items) }
+    ensures outputs { IfOk result (λ left. map (λ output. output.items) left.1.items ≡ map (λ thread. thread.state.out) threads.entry.items) }
 {
     let mut ends = List::new(alloc);
-    for at in 0..runners.len() {
-        let runner = &mut runners[at];
-        ends.push(runner.end())?;
-    }
-    Ok(ends)
-}
-
-/// What each thread printed, in order of number.
-pub fn outputs_of(alloc: Global, runners: Vec<Runner<'_>>) -> Result<List<List<u8>>, NoMemory>
-    ensures { IfOk result (λ outputs. outputs.items ≡ map (λ runner. runner.printed) runners.entry.items) }
-{
     let mut outputs = List::new(alloc);
-    for runner in runners {
-        outputs.push(runner.printed)?;
+    for thread in threads {
+        let (end, printed) = thread.end();
+        ends.push(end)?;
+        outputs.push(printed)?;
     }
-    Ok(outputs)
+    Ok((ends, outputs))
 }
 
 /// The last value of each cell.

@@ -1,10 +1,11 @@
 //! The driver at its start: cells at their starting values, each thread named and behind its local start.
-ghost use Rattle.std.specs.Prelude.{◌≡◌, ◌≤◌, ◌<◌, ℕ, [], List, IfOk, OnOk, length, slice_index, slice_index_or};
+ghost use Rattle.std.specs.Prelude.{◌≡◌, ◌≤◌, ◌<◌, ℕ, [], List, IfOk, OnOk, length, map, slice_index, slice_index_or};
 ghost use Rattle.std.specs.List.{range_with_len};
 ghost use Rattle.stride_isa.specs.Listing.{cell_count, starts_of};
+ghost use Rattle.sc_machine.specs.StandingThread.{started_at};
 ghost use Rattle.interleavings.specs.AtomicStep.{SharedWord};
 ghost use Rattle.interleavings.specs.CoreShows.{ShowsState, HasSameShape};
-ghost use Rattle.interleavings.specs.DriverShows.{AreRunners, CanDraw, IsStartCore, Shows};
+ghost use Rattle.interleavings.specs.DriverShows.{CanDraw, IsStartCore, Shows};
 ghost use Rattle.interleavings.specs.History.{after, newcomer, start_words};
 ghost use Rattle.interleavings.specs.Layout.{index_of, row_length, IsInRow};
 ghost use Rattle.interleavings.specs.Recording.{begun, draws};
@@ -14,8 +15,8 @@ use crate::core_words::Core;
 use crate::driver::Driver;
 use crate::kind::Kind;
 use crate::layout::Layout;
-use crate::runner::Runner;
 use crate::stepping::AtomicStep;
+use sc_machine::StandingThread;
 use std::alloc::{AllocError, Global};
 use std::collections::LinkedList;
 use stride_base::NoMemory;
@@ -86,22 +87,22 @@ fn draw_names(core: &mut Core, threads: u32) -> Result<(), NoMemory>
     Ok(())
 }
 
-// A runner for each thread, in order of number.
-fn start_runners<'p>(
+// Each thread after its local start, in order of number.
+fn start_threads<'p>(
     alloc: Global,
     program: &'p Checked,
     fuel: u32,
-) -> Result<Vec<Runner<'p>>, NoMemory>
+) -> Result<Vec<StandingThread<'p>>, NoMemory>
     requires some { 1 ≤ fuel }
     requires limit { fuel ≤ 1000000 }
-    ensures { IfOk result (λ runners. AreRunners program.now fuel (length program.now.threads) runners.items) }
+    ensures { IfOk result (λ threads. threads.items ≡ map (started_at program.now fuel) (range_with_len 0 (length program.now.threads))) }
 {
-    let mut runners = Vec::new(alloc);
-    for thread in 0..program.threads() {
-        let runner = Runner::start(alloc, program, thread, fuel)?;
-        runners.push(runner)?;
+    let mut threads = Vec::new(alloc);
+    for number in 0..program.threads() {
+        let thread = StandingThread::start(alloc, program, number, fuel)?;
+        threads.push(thread)?;
     }
-    Ok(runners)
+    Ok(threads)
 }
 
 /// The driver at the start of a program.
@@ -117,12 +118,12 @@ pub fn start_driver<'p>(
 {
     let mut core = start_core(alloc, program)?;
     draw_names(&mut core, program.threads())?;
-    let runners = start_runners(alloc, program, fuel)?;
+    let threads = start_threads(alloc, program, fuel)?;
     Ok(Driver {
         program,
         fuel,
         patience,
-        runners,
+        threads,
         core,
     })
 }

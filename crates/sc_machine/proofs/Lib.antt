@@ -1,6 +1,7 @@
 pub mod AtStop
 pub mod Digits
 mod Examples
+mod GoingOn
 pub mod Inside
 pub mod Output
 pub mod Refusals

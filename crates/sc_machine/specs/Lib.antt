@@ -2,6 +2,8 @@ pub mod Laws
 pub mod Machine
 pub mod Made
 pub mod Schedule
+pub mod StandingInside
+pub mod StandingThread
 pub mod ThreadRun
 pub mod ThreadRunInside
 pub mod ThreadStep

@@ -11,6 +11,7 @@ mod instruction;
 mod laws;
 mod limits;
 mod printing;
+mod standing_thread;
 mod stop;
 mod thread_run;
 mod trap;
@@ -20,6 +21,7 @@ pub use laws::{
     outputs_are_lines, refused_where_stuck, replay_along_turns, settled_prints, settled_stands,
     starts_settle, turn_by_stop, turns_are_steps,
 };
+pub use standing_thread::StandingThread;
 pub use stop::Stop;
 pub use thread_run::ThreadRun;
 pub use trap::Trap;

@@ -2,7 +2,7 @@ use Rattle.std.proofs.Common.{◌≡◌, sym, arith}
 use Rattle.interleavings.specs.Recording.{Setting, advance_all, begun, driven}
 use Rattle.interleavings.specs.DriverShows.{settled_all}
 use Rattle.interleavings.specs.DrivenSeen.{recording_seen}
-use Rattle.interleavings.proofs.Ending.{all_known, follow_may, settle_may, settled_shows, all_standing, whole_driven}
+use Rattle.interleavings.proofs.Ending.{all_known, follow_may, settle_may, settled_shows, whole_driven}
 use Rattle.interleavings.proofs.FewLogs.{few_logs}
 use Rattle.interleavings.proofs.driving.drive.Goals as goal
 
@@ -22,10 +22,8 @@ settle-requires c =
 
 pub recorded-requires : goal.recorded-requires
 recorded-requires c =
-    let g : Setting = record { program = c.args.program.now; fuel = c.args.fuel; patience = c.args.patience } in record {
-      standing = all_standing g c.args.order.now c.in_ok-driver.driver c.follow.new.self c.settle.new.self c.in_ok-driver.ensures c.in_ok-follow.ensures c.in_ok-settle.ensures;
-      whole = (settled_shows g c.args.order.now c.in_ok-driver.driver c.follow.new.self c.settle.new.self c.in_ok-driver.ensures c.in_ok-follow.ensures c.in_ok-settle.ensures).whole;
-    }
+    let g : Setting = record { program = c.args.program.now; fuel = c.args.fuel; patience = c.args.patience } in
+    (settled_shows g c.args.order.now c.in_ok-driver.driver c.follow.new.self c.settle.new.self c.in_ok-driver.ensures c.in_ok-follow.ensures c.in_ok-settle.ensures).whole
 
 pub returns-clause-recording : goal.returns-clause-recording
 returns-clause-recording c =

@@ -6,8 +6,8 @@ use Rattle.interleavings.proofs.driving.recorded.Goals as goal
 
 pub returns : goal.returns
 returns c = λ g d shows.
-    recorded_parts g c.args.driver d (record { logs = c.in_ok-logs.logs; outputs = c.in_ok-outputs.outputs; ends = c.in_ok-ends.ends; last_values = c.in_ok-last_values.last_values }) shows
+    recorded_parts g c.args.driver d (record { logs = c.in_ok-logs.logs; outputs = c.in_ok-ends.outputs; ends = c.in_ok-ends.ends; last_values = c.in_ok-last_values.last_values }) shows
     (c.in_ok-logs.ensures ∙ ap (map (λ (acts : Acts). log_of acts.events)) c.deref.ensures.value)
-    (c.in_ok-outputs.ensures ∙ c.in_ok-ends.ensures.printed)
+    c.in_ok-ends.ensures.outputs
     c.in_ok-ends.ensures.ends
     c.in_ok-last_values.ensures

@@ -6,5 +6,5 @@ draw_names-requires c = start_draws c.args.program.now c.in_ok-core.core c.threa
 
 pub returns : goal.returns
 returns c =
-    driver_begun (record { program = c.args.program; fuel = c.args.fuel; patience = c.args.patience; runners = c.in_ok-runners.runners; core = c.draw_names.new.core }) c.in_ok-core.core c.threads.result
-    c.in_ok-core.ensures c.threads.ensures.count c.threads.ensures.small c.in_ok-draw_names.ensures.shape c.in_ok-draw_names.ensures.shows c.in_ok-runners.ensures
+    driver_begun (record { program = c.args.program; fuel = c.args.fuel; patience = c.args.patience; threads = c.in_ok-threads.threads; core = c.draw_names.new.core }) c.in_ok-core.core c.threads.result
+    c.in_ok-core.ensures c.threads.ensures.count c.threads.ensures.small c.in_ok-draw_names.ensures.shape c.in_ok-draw_names.ensures.shows c.in_ok-threads.ensures

@@ -1,0 +1,113 @@
+//! A thread that stands, with what it printed.
+ghost use Rattle.std.specs.Prelude.{◌≡◌, ◌<◌, ◌≤◌, IfOk, length, unwrap_or};
+ghost use Rattle.sc_machine.specs.Schedule.{stopped};
+ghost use Rattle.sc_machine.specs.StandingThread.{started_at, standing_after, stop_here};
+ghost use Rattle.sc_machine.specs.ThreadRun.{IsShared, NamesCell, TakesWord, state};
+ghost use Rattle.sc_machine.specs.ThreadStep.{Stands, end_of, now};
+
+use crate::end::End;
+use crate::stop::Stop;
+use crate::thread_run::ThreadRun;
+use std::alloc::Global;
+use std::marker::Model;
+use stride_base::{List, NoMemory};
+use stride_isa::Checked;
+
+/// The most bytes that one instruction prints: the digits of a word and a line feed.
+const LINE_LIMIT: usize = 21;
+
+/// One thread of a program at a shared instruction or at its end, with what it printed so far and room for all that it may
+/// print yet.
+///
+/// Only `start` takes memory.
+#[derive(Drop)]
+pub struct StandingThread<'p> {
+    run: ThreadRun<'p>,
+    printed: List<u8>,
+    stop: Stop,
+}
+
+impl<'p> Model for StandingThread<'p> {
+    ghost use Rattle.sc_machine.specs.StandingInside.{IsStanding};
+    ghost use Rattle.sc_machine.specs.StandingThread.{Standing};
+    ghost use Rattle.sc_machine.specs.ThreadRun.{state};
+
+    ghost Value = { Standing };
+
+    ghost view = { λ a. record { program = a.run.program; number = a.run.thread; fuel = a.run.fuel; state = state a.run a.printed.items } };
+
+    ghost invariant = { λ a. IsStanding a.run a.printed a.stop };
+}
+
+impl<'p> StandingThread<'p> {
+    /// The thread after its local start, with a fuel of 1 to 1,000,000 instructions.
+    pub fn start(
+        alloc: Global,
+        program: &'p Checked,
+        number: u32,
+        fuel: u32,
+    ) -> Result<StandingThread<'p>, NoMemory>
+        requires thread { number < length program.now.threads }
+        requires some { 1 ≤ fuel }
+        requires limit { fuel ≤ 1000000 }
+        ensures { IfOk result (λ thread. thread ≡ started_at program.now fuel number) }
+    {
+        let mut printed = List::new(alloc);
+        printed.reserve(LINE_LIMIT * fuel as usize)?;
+        let mut run = ThreadRun::start(program, number, fuel);
+        let stop = run.local(&mut printed);
+        Ok(StandingThread { run, printed, stop })
+    }
+
+    /// Where the thread stands.
+    pub fn stop(&self) -> Stop
+        ensures stop { result ≡ stop_here self.now }
+        ensures stands { now self.now.program self.now.number self.now.state ≡ Stands result }
+        ensures names_cell { NamesCell self.now.program result }
+        ensures fuel_left { IsShared result → self.now.state.made < self.now.fuel }
+    {
+        self.stop
+    }
+
+    /// Completes the shared instruction at which the thread stands, and makes its local instructions up to where it stands
+    /// next. The word is there exactly for a read, which gets it.
+    pub fn answer(&mut self, word: Option<u64>)
+        requires { TakesWord (stop_here self.old) word }
+        ensures { self.new ≡ standing_after (unwrap_or word 0) self.old }
+    {
+        self.run.answer(word);
+        self.stop = self.run.local(&mut self.printed);
+    }
+
+    /// Ends the thread at the shared instruction where it stands. The instruction is not counted.
+    pub fn give_up(&mut self)
+        requires { IsShared (stop_here self.old) }
+        ensures { self.new ≡ record self.old { state = stopped self.old.state } }
+    {
+        let end = self.run.give_up();
+        self.stop = Stop::Ended { end };
+    }
+
+    /// What the thread printed so far.
+    pub fn printed(&self) -> &[u8]
+        ensures { result.now ≡ self.now.state.out }
+    {
+        self.printed.as_slice()
+    }
+
+    /// How the thread ends where it is not answered any more, and what it printed: at a shared instruction it is stopped.
+    pub fn end(self) -> (End, List<u8>)
+        ensures end { result.0 ≡ end_of self.entry.state }
+        ensures printed { result.1.items ≡ self.entry.state.out }
+    {
+        let mut run = self.run;
+        let end = match self.stop {
+            Stop::Ended { end } => end,
+            Stop::Read { cell: _ }
+            | Stop::Write { cell: _, value: _ }
+            | Stop::Enter { mon: _ }
+            | Stop::Exit { mon: _ } => run.give_up(),
+        };
+        (end, self.printed)
+    }
+}
