@@ -1,5 +1,5 @@
 -- A thread is run again event by event.
-use Rattle.std.proofs.Common.{replicate, ◌≡◌, ℕ, zero, suc, ◌+◌, ◌-◌, ◌<◌, ◌≤◌, List, [], ◌∷◌, ◌++◌, Option, Result, Ok, Err, length, refl, sym, ◌∙◌, ap, subst, arith, append_assoc, length-append}
+use Rattle.std.proofs.Common.{replicate, ◌≡◌, ℕ, zero, suc, ◌+◌, ◌-◌, ◌<◌, ◌≤◌, List, [], ◌∷◌, ◌++◌, Option, Result, Ok, Err, length, refl, sym, ◌∙◌, ap, arith, append_assoc, length-append}
 use Rattle.std.proofs.lemmas.List.{append-nil, get_or-set_same, set-get_or}
 use Rattle.std.specs.Prelude.{slice_set, slice_index, slice_get}
 use Rattle.stride_isa.specs.Listing.{Listing}
@@ -7,17 +7,19 @@ use Rattle.sc_machine.specs.declared.stop.Stop.{Stop}
 use Rattle.sc_machine.specs.declared.stop.Stop.TheVariants as stops
 use Rattle.sc_machine.specs.Schedule.{stopped}
 use Rattle.sc_machine.specs.ThreadStep.{Thread, Stands, now, stop_in}
+use Rattle.sc_machine.specs.StandingThread.{Standing}
 use Rattle.sc_machine.specs.ThreadRun.{IsShared}
 use Rattle.interleavings.specs.declared.event.Event.{Event}
 use Rattle.interleavings.specs.declared.event.Event.TheVariants as events
 use Rattle.interleavings.specs.declared.event.LogEntry.{LogEntry}
 use Rattle.interleavings.specs.Recording.{behind}
+use Rattle.interleavings.proofs.Walks.{behind-made}
 use Rattle.interleavings.specs.TraceLists.{TraceLists, events_of, with_event_of}
 use Rattle.interleavings.specs.Following.{Met, Makes, Over, Off, Followed, met_of, on_met, event_before, follow_from, place_after, turns_after}
 use Rattle.thread_rerun.specs.declared.follower.Follower.{Follower}
 use Rattle.thread_rerun.specs.declared.meeting.Met.{Met as Told}
 use Rattle.thread_rerun.specs.declared.meeting.Met.TheVariants as told
-use Rattle.thread_rerun.specs.Shows.{Going, IsFollower, IsGone, IsOver, Suits, events_before, following, seen_met, thread_in, turns_in, with_events}
+use Rattle.thread_rerun.specs.Shows.{Going, IsGone, IsOver, Suits, events_before, following, seen_met, turns_in, with_events}
 
 -- a row with an element set twice
 set_twice : {A : Type 0} (l : List A) (i : ℕ) (a b : A) → slice_set (slice_set l i a) i b ≡ slice_set l i b
@@ -112,71 +114,87 @@ place_grows (events.Read cell value bound) place = omega arith
 place_grows (events.Write cell value number) place = omega arith
 place_grows (events.Enter monitor turn) place = omega arith
 
-module _ (old half : Follower) (log : List LogEntry) (t : ℕ) (before sofar : TraceLists) (going : Going old half log t before sofar) (next : Option LogEntry) (is_next : next ≡ slice_get log half.place) (result : Told) (meets : result ≡ seen_met (met_of half.stop next (turns_in half))) where
+module _ (old half : Follower) (log : List LogEntry) (t : ℕ) (before sofar : TraceLists) (going : Going old half log t before sofar) (stop : Stop) (stands : now half.thread.program half.thread.number half.thread.state ≡ Stands stop) (next : Option LogEntry) (is_next : next ≡ slice_get log half.place) (result : Told) (meets : result ≡ seen_met (met_of stop next (turns_in half))) where
   abbrev p : Listing
-  p = old.run.program
+  p = old.thread.program
 
   abbrev fuel : ℕ
-  fuel = old.run.fuel
+  fuel = old.thread.fuel
 
-  pub goes_on : (event : Event) → result ≡ told.Makes event → Suits half.stop event → t < length before.events → (new : Follower) → IsGone half new event → Going old new log t before (with_event_of sofar t event)
-  goes_on event is fits inside new gone =
-      let f = going.follower in
-      let left : half.run.made < fuel = f.fuel_left (suits_shared half.stop event fits) in
-      let k = is_more (fuel - half.run.made) going.n going.enough in
+  abbrev s : Thread
+  s = half.thread.state
+
+  -- it stands there in the program
+  stands_there : now p t s ≡ Stands stop
+  stands_there =
+      let is = going.is_thread in
+      sym (ap (λ q. now q half.thread.number s) is.program ∙ ap (λ n. now p n s) is.which) ∙ stands
+
+  pub goes_on : (event : Event) → result ≡ told.Makes event → Suits stop event → (IsShared stop → s.made < half.thread.fuel) → t < length before.events → (new : Follower) → IsGone half new event → Going old new log t before (with_event_of sofar t event)
+  goes_on event is fits fuel_left inside new gone =
+      let f = going.is_thread in
+      let left : s.made < half.thread.fuel = fuel_left (suits_shared stop event fits) in
+      let k = is_more (fuel - s.made) going.n going.enough in
       let es : List Event = going.so_far ++ event ∷ [] in
-      let s : Thread = behind p fuel t event (thread_in half) in
-      let same : thread_in new ≡ s
-      = gone.thread
-      ∙ ap (λ q. behind q half.run.fuel half.run.thread event (thread_in half)) f.program
-      ∙ ap (λ limit. behind p limit half.run.thread event (thread_in half)) f.fuel_is
-      ∙ ap (λ u. behind p fuel u event (thread_in half)) f.thread in
+      let s' : Thread = behind p fuel t event s in
+      let same : new.thread.state ≡ s'
+      = ap (λ (x : Standing). x.state) gone.thread
+      ∙ ap (λ q. behind q half.thread.fuel half.thread.number event s) f.program
+      ∙ ap (λ limit. behind p limit half.thread.number event s) f.fuel_is
+      ∙ ap (λ u. behind p fuel u event s) f.which in
+      let grows : s.made < new.thread.state.made = omega (arith, behind-made p fuel t event s, ap (λ (x : Thread). x.made) same) in
       let traces : with_event_of sofar t event ≡ with_events before t (going.so_far ++ event ∷ []) = ap (λ tr. with_event_of tr t event) going.traces ∙ with_one before t going.so_far event inside in
       record {
-        follower = subst (λ (q : Listing). IsFollower q fuel t new) f.program (subst (λ (limit : ℕ). IsFollower half.run.program limit t new) f.fuel_is (subst (λ (u : ℕ). IsFollower half.run.program half.run.fuel u new) f.thread gone.follower));
-        place = omega (arith, gone.place, gone.made, going.place, place_grows event half.place);
-        low = omega (arith, gone.place, left, going.place, place_grows event half.place);
+        is_thread = record {
+          program = ap (λ (x : Standing). x.program) gone.thread ∙ f.program;
+          fuel_is = ap (λ (x : Standing). x.fuel) gone.thread ∙ f.fuel_is;
+          which = ap (λ (x : Standing). x.number) gone.thread ∙ f.which;
+        };
+        place = omega (arith, gone.place, grows, going.place, place_grows event half.place);
+        low = omega (arith, gone.place, left, f.fuel_is, going.place, place_grows event half.place);
         n = k.0;
-        enough = omega (arith, left, gone.made, going.enough, k.1);
+        enough = omega (arith, left, f.fuel_is, grows, going.enough, k.1);
         so_far = going.so_far ++ event ∷ [];
         traces = traces;
-        few = omega (arith, going.few, gone.made, length-append going.so_far (event ∷ []));
+        few = omega (arith, going.few, grows, length-append going.so_far (event ∷ []));
         whole = going.whole
-            ∙ ap (λ n. events_before going.so_far (follow_from p fuel t log n half.place (turns_in half) (thread_in half))) k.1
-            ∙ ap (events_before going.so_far) (turn_of p fuel t log half.place (turns_in half) (thread_in half) half.stop next k.0 (Makes event) f.stands is_next (met_is _ (told.Makes event) is meets))
+            ∙ ap (λ n. events_before going.so_far (follow_from p fuel t log n half.place (turns_in half) s)) k.1
+            ∙ ap (events_before going.so_far) (turn_of p fuel t log half.place (turns_in half) s stop next k.0 (Makes event) stands_there is_next (met_is _ (told.Makes event) is meets))
             ∙ before_one going.so_far event _
-            ∙ ap (λ place. events_before es (follow_from p fuel t log k.0 place (turns_after event (turns_in half)) s)) (sym gone.place)
-            ∙ ap (λ turns. events_before es (follow_from p fuel t log k.0 new.place turns s)) (sym gone.turns)
+            ∙ ap (λ place. events_before es (follow_from p fuel t log k.0 place (turns_after event (turns_in half)) s')) (sym gone.place)
+            ∙ ap (λ turns. events_before es (follow_from p fuel t log k.0 new.place turns s')) (sym gone.turns)
             ∙ ap (λ thread. events_before es (follow_from p fuel t log k.0 new.place (turns_in new) thread)) (sym same);
       }
 
+  pub falls : (event : Event) → Suits stop event → (IsShared stop → s.made < half.thread.fuel) → (new : Follower) → IsGone half new event → new.thread.fuel - new.thread.state.made < half.thread.fuel - s.made
+  falls event fits fuel_left new gone =
+      let left : s.made < half.thread.fuel = fuel_left (suits_shared stop event fits) in
+      omega (arith, left, behind-made half.thread.program half.thread.fuel half.thread.number event s, ap (λ (x : Standing). x.state.made) gone.thread, ap (λ (x : Standing). x.fuel) gone.thread)
+
   pub off : result ≡ told.Off → following old log t ≡ Err half.place
   off is =
-      let f = going.follower in
-      let k = is_more (fuel - half.run.made) going.n going.enough in
+      let k = is_more (fuel - s.made) going.n going.enough in
       going.whole
-      ∙ ap (λ n. events_before going.so_far (follow_from p fuel t log n half.place (turns_in half) (thread_in half))) k.1
-      ∙ ap (events_before going.so_far) (turn_of p fuel t log half.place (turns_in half) (thread_in half) half.stop next k.0 Off f.stands is_next (met_is _ told.Off is meets))
+      ∙ ap (λ n. events_before going.so_far (follow_from p fuel t log n half.place (turns_in half) s)) k.1
+      ∙ ap (events_before going.so_far) (turn_of p fuel t log half.place (turns_in half) s stop next k.0 Off stands_there is_next (met_is _ told.Off is meets))
 
   pub over : result ≡ told.Over → IsOver old half log t before sofar
   over is =
-      let f = going.follower in
       record {
-        followed = record { events = going.so_far ++ []; thread = stopped (thread_in half) };
+        followed = record { events = going.so_far ++ []; thread = stopped s };
         is_followed = going.whole
-            ∙ ap (events_before going.so_far) (over_at p fuel t log half.place (turns_in half) (thread_in half) half.stop next going.n f.stands is_next (met_is _ told.Over is meets));
+            ∙ ap (events_before going.so_far) (over_at p fuel t log half.place (turns_in half) s stop next going.n stands_there is_next (met_is _ told.Over is meets));
         traces = going.traces ∙ ap (with_events before t) (sym (append-nil going.so_far));
         thread = refl;
-        follower = f;
       }
 
 -- at the start no event was made
-pub begins : (f : Follower) (log : List LogEntry) (t : ℕ) (traces : TraceLists) → IsFollower f.run.program f.run.fuel t f → f.place ≡ 0 → length (events_of traces t) ≤ f.run.made → Going f f log t traces traces
-begins f log t traces follower place few = record {
-  follower = follower;
+pub begins : (f : Follower) (log : List LogEntry) (t : ℕ) (traces : TraceLists) → f.thread.number ≡ t → f.place ≡ 0 → length (events_of traces t) ≤ f.thread.state.made → Going f f log t traces traces
+begins f log t traces which place few = record {
+  is_thread = record { program = refl; fuel_is = refl; which = which };
   place = omega (arith, place);
   low = omega (arith, place);
-  n = f.run.fuel + 1;
+  n = f.thread.fuel + 1;
   enough = omega arith;
   so_far = [];
   traces = with_nothing traces t;

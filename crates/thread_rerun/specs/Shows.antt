@@ -1,15 +1,15 @@
 -- What the code keeps and answers, beside what following says. Only private clauses cite this module.
-use Rattle.std.specs.Prelude.{◌≡◌, ℕ, ◌+◌, ◌-◌, ◌*◌, ◌<◌, ◌≤◌, List, [], ◌∷◌, ◌++◌, length, map, drop, replicate, Result, Ok, Err, slice_index, slice_set}
+use Rattle.std.specs.Prelude.{◌≡◌, ℕ, ◌+◌, ◌-◌, ◌<◌, ◌≤◌, List, [], ◌∷◌, ◌++◌, length, map, drop, replicate, Result, Ok, Err, slice_index, slice_set}
 use Rattle.stride_isa.specs.Listing.{Listing, cell_count, starts_of}
 use Rattle.sc_machine.specs.declared.stop.Stop.{Stop}
 use Rattle.sc_machine.specs.declared.stop.Stop.TheVariants as stops
-use Rattle.sc_machine.specs.ThreadStep.{Thread, Stands, now, end_of}
-use Rattle.sc_machine.specs.ThreadRun.{IsShared, NamesCell, state}
+use Rattle.sc_machine.specs.ThreadStep.{end_of}
+use Rattle.sc_machine.specs.StandingThread.{IsThreadOf, standing_after}
 use Rattle.sc_machine.specs.Schedule.{stopped}
 use Rattle.interleavings.specs.declared.event.Event.{Event}
 use Rattle.interleavings.specs.declared.event.Event.TheVariants as events
 use Rattle.interleavings.specs.declared.event.LogEntry.{LogEntry}
-use Rattle.interleavings.specs.Recording.{behind}
+use Rattle.interleavings.specs.Events.{word_given}
 use Rattle.interleavings.specs.TraceLists.{TraceLists, events_of}
 use Rattle.interleavings.specs.Following.{Met, Makes, Over, Off, Divergence, Followed, follow, follow_all, follow_all_from, follow_from, place_after, turns_after}
 use Rattle.thread_rerun.specs.Rerunning.{Again, rerun_seen}
@@ -49,20 +49,6 @@ abbrev pub Fits : Stop → Told → Type 0
 Fits stop (told.Makes event) = Suits stop event
 Fits stop met = Unit {0}
 
--- the thread that a follower runs
-abbrev pub thread_in : Follower → Thread
-thread_in f = state f.run f.printed.items
-
--- it runs this thread of the program with this fuel, and stands where it says, with room for what it may print
-pub record IsFollower (p : Listing) (fuel t : ℕ) (f : Follower) : Type 0 where
-  pub program : f.run.program ≡ p
-  pub thread : f.run.thread ≡ t
-  pub fuel_is : f.run.fuel ≡ fuel
-  pub stands : now p t (thread_in f) ≡ Stands f.stop
-  pub cell : NamesCell p f.stop
-  pub room : 21 * (fuel - f.run.made) ≤ f.printed.spare
-  pub fuel_left : IsShared f.stop → f.run.made < fuel
-
 -- the turn of the last entry into each monitor
 abbrev pub turns_in : Follower → ℕ → ℕ
 turns_in f m = slice_index f.turns m
@@ -73,11 +59,9 @@ no_turns m = 0
 
 -- the follower has gone on behind this event
 pub record IsGone (old new : Follower) (event : Event) : Type 0 where
-  pub follower : IsFollower old.run.program old.run.fuel old.run.thread new
-  pub thread : thread_in new ≡ behind old.run.program old.run.fuel old.run.thread event (thread_in old)
+  pub thread : new.thread ≡ standing_after (word_given event) old.thread
   pub place : new.place ≡ place_after event old.place
   pub turns : turns_in new ≡ turns_after event (turns_in old)
-  pub made : old.run.made < new.run.made
 
 -- the traces are of a program with these cells and monitors
 pub record IsOfProgram (p : Listing) (traces : TraceLists) : Type 0 where
@@ -90,15 +74,14 @@ with_events traces t es = record traces { events = slice_set traces.events t (ev
 
 -- what following comes to from where the follower stands
 abbrev pub following : Follower → List LogEntry → ℕ → Result Followed ℕ
-following f log t = follow_from f.run.program f.run.fuel t log (f.run.fuel + 1) f.place (turns_in f) (thread_in f)
+following f log t = follow_from f.thread.program f.thread.fuel t log (f.thread.fuel + 1) f.place (turns_in f) f.thread.state
 
 -- the thread was run to its end, and its events were appended
 pub record IsOver (old new : Follower) (log : List LogEntry) (t : ℕ) (before after : TraceLists) : Type 0 where
   pub followed : Followed
   pub is_followed : following old log t ≡ Ok followed
   pub traces : after ≡ with_events before t followed.events
-  pub thread : stopped (thread_in new) ≡ followed.thread
-  pub follower : IsFollower old.run.program old.run.fuel t new
+  pub thread : stopped new.thread.state ≡ followed.thread
 
 -- what running a thread again comes to
 abbrev pub Comes : Follower → Follower → List LogEntry → ℕ → TraceLists → TraceLists → Result (Unit {0}) RerunError → Type 0
@@ -114,15 +97,15 @@ events_before es (Err place) = Err place
 -- half way: what following comes to is the events so far before what it comes to from here, for more events than there is
 -- fuel for
 pub record Going (old half : Follower) (log : List LogEntry) (t : ℕ) (before now : TraceLists) : Type 0 where
-  pub follower : IsFollower old.run.program old.run.fuel t half
-  pub place : half.place ≤ half.run.made
-  pub low : half.place ≤ old.run.fuel
+  pub is_thread : IsThreadOf old.thread.program old.thread.fuel t half.thread
+  pub place : half.place ≤ half.thread.state.made
+  pub low : half.place ≤ old.thread.fuel
   pub n : ℕ
-  pub enough : old.run.fuel - half.run.made < n
+  pub enough : old.thread.fuel - half.thread.state.made < n
   pub so_far : List Event
   pub traces : now ≡ with_events before t so_far
-  pub few : length (events_of before t) + length so_far ≤ half.run.made
-  pub whole : following old log t ≡ events_before so_far (follow_from old.run.program old.run.fuel t log n half.place (turns_in half) (thread_in half))
+  pub few : length (events_of before t) + length so_far ≤ half.thread.state.made
+  pub whole : following old log t ≡ events_before so_far (follow_from old.thread.program old.thread.fuel t log n half.place (turns_in half) half.thread.state)
 
 -- the traces are of the program, and this thread has no events yet
 pub record HasRoomFor (p : Listing) (t : ℕ) (traces : TraceLists) : Type 0 where

@@ -39,8 +39,8 @@ fn rerun_thread(
 {
     let mut follower = Follower::start(alloc, program, thread, fuel)?;
     follow_log(&mut follower, log, thread, &mut rerun.traces)?;
-    let end = follower.end();
-    rerun.outputs.push(follower.printed)?;
+    let (end, printed) = follower.thread.end();
+    rerun.outputs.push(printed)?;
     rerun.ends.push(end)?;
     Ok(())
 }

@@ -1,7 +1,7 @@
 //! Running one thread again.
 ghost use Rattle.std.specs.Prelude.{◌≡◌, ◌<◌, ◌≤◌, length, slice_get};
 ghost use Rattle.interleavings.specs.TraceLists.{events_of};
-ghost use Rattle.thread_rerun.specs.Shows.{IsFollower, IsOfProgram, Comes};
+ghost use Rattle.thread_rerun.specs.Shows.{IsOfProgram, Comes};
 
 use crate::follower::Follower;
 use crate::meeting::{Met, meet};
@@ -21,20 +21,17 @@ pub(crate) fn follow_log(
     thread: u32,
     traces: &mut Traces,
 ) -> Result<(), RerunError>
-    requires follower { IsFollower follower.old.run.program follower.old.run.fuel thread follower.old }
-    requires limit { follower.old.run.fuel ≤ 1000000 }
+    requires follower { follower.old.thread.number ≡ thread }
+    requires limit { follower.old.thread.fuel ≤ 1000000 }
     requires place { follower.old.place ≡ 0 }
-    requires traces { IsOfProgram follower.old.run.program traces.old }
+    requires traces { IsOfProgram follower.old.thread.program traces.old }
     requires thread { thread < length traces.old.events }
-    requires few { length (events_of traces.old thread) ≤ follower.old.run.made }
+    requires few { length (events_of traces.old thread) ≤ follower.old.thread.state.made }
     ensures { Comes follower.old follower.new log.now thread traces.old traces.new result }
 {
     loop {
-        match meet(
-            follower.stop,
-            entry_at(log, follower.place),
-            &follower.turns,
-        ) {
+        let stop = follower.thread.stop();
+        match meet(stop, entry_at(log, follower.place), &follower.turns) {
             Met::Makes { event } => {
                 traces.push(thread, event)?;
                 follower.go(event);

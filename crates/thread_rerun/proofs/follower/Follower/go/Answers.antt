@@ -1,6 +1,15 @@
-use Rattle.thread_rerun.proofs.Going.{gone}
+use Rattle.std.proofs.Common.{sym, subst, ap, Option, ◌∙◌, ℕ, unwrap_or}
+use Rattle.sc_machine.specs.StandingThread.{standing_after, stop_here}
+use Rattle.sc_machine.specs.ThreadRun.{TakesWord}
+use Rattle.thread_rerun.proofs.Going.{suits_takes}
 use Rattle.thread_rerun.proofs.follower.Follower.go.Goals as goal
 
+pub answer-requires : goal.answer-requires
+answer-requires c = subst (λ (word : Option ℕ). TakesWord (stop_here c.args.self.now.thread) word) (sym c.word.ensures) (suits_takes (stop_here c.args.self.now.thread) c.args.event c.requires.suits)
+
 pub returns : goal.returns
-returns c =
-    gone c.args.self.now c.answer.new.self c.local-self.new.self c.local-self.new.out c.local-self.result c.args.event c.next_place-self.result c.keep_turn.new.turns c.word.result c.word.ensures c.answer.ensures.state c.answer.ensures.made c.answer.ensures.same c.local-self.ensures.state c.local-self.ensures.stands c.local-self.ensures.same c.local-self.ensures.names_cell c.local-self.ensures.made c.local-self.ensures.fuel_left c.local-self.ensures.spare c.next_place-self.ensures c.keep_turn.ensures
+returns c = record {
+  thread = c.answer.ensures ∙ ap (λ (word : Option ℕ). standing_after (unwrap_or word 0) c.args.self.now.thread) c.word.ensures;
+  place = c.next_place-self.ensures;
+  turns = c.keep_turn.ensures;
+}
