@@ -10,6 +10,7 @@ use Rattle.stride_isa.specs.Listing.{Listing, cell_count}
 use Rattle.sc_machine.specs.declared.stop.Stop.{Stop}
 use Rattle.sc_machine.specs.declared.stop.Stop.TheVariants.{Read, Write, Enter, Exit, Ended}
 use Rattle.sc_machine.specs.ThreadStep.{Stands, start_thread, now, settled, answered}
+use Rattle.sc_machine.specs.StandingThread.{IsThreadOf}
 use Rattle.sc_machine.specs.ThreadRun.{NamesCell}
 use Rattle.sc_machine.specs.Machine.{Machine, thread_at, may_pass, can, is_free_for, put, word_read, cells_after, holders_after}
 use Rattle.sc_machine.specs.Schedule.{settled_lines, turn, turned}
@@ -87,21 +88,21 @@ abbrev pub table_after : Table → ℕ → Player → Stop → Listed ℕ → Ta
 table_after table t player stop transcript =
     record { program = table.program; fuel = table.fuel; players = with_item table.players t player; cells = cells_in stop table.cells; holders = holders_in t stop table.holders; transcript = transcript }
 
-module _ (table : Table) (t : ℕ) (old new : Player) (transcript : Listed ℕ) where
+module _ (table : Table) (t : ℕ) (old new : Player) (transcript : Listed ℕ) (stop : Stop) where
   abbrev p : Listing
   p = table.program.now
 
   abbrev after : Table
-  after = table_after table t new old.stop transcript
+  after = table_after table t new stop transcript
 
   abbrev Went : Type 0
-  Went = WentOn p table.fuel t (word_in old.stop table.cells) old new table.transcript.items transcript.items
+  Went = WentOn p table.fuel t (word_in stop table.cells) old new table.transcript.items transcript.items
 
   pub still_table : IsTable table → t < length table.players.items → Went → IsTable after
   still_table is lt went = record {
     count = length-set table.players.items t new ∙ is.count;
-    room = omega (arith, is.room, cells_long old.stop table.cells);
-    monitors = holders_long t old.stop table.holders ∙ is.monitors;
+    room = omega (arith, is.room, cells_long stop table.cells);
+    monitors = holders_long t stop table.holders ∙ is.monitors;
     each = λ k d below. elim (eqb_tells k t) [
       | inl same ↦
           let e : k ≡ t = same.1 in
@@ -114,61 +115,64 @@ module _ (table : Table) (t : ℕ) (old new : Player) (transcript : Listed ℕ) 
     ];
   }
 
-  pub turn_taken : (m : Machine) → IsTable table → t < length table.players.items → old ≡ get_or table.players.items t old → may_in t old.stop table.holders ≡ true → Went → Shows table m → (can p t m ≡ true) × Shows after (turn p table.fuel t m)
+  pub turn_taken : (m : Machine) → IsTable table → t < length table.players.items → old ≡ get_or table.players.items t old → now p t (thread_of old) ≡ Stands stop → NamesCell p stop → may_in t stop table.holders ≡ true → Went → Shows table m → (can p t m ≡ true) × Shows after (turn p table.fuel t m)
   unfolding turned
-  turn_taken m is lt whose may went shows =
-      let player : IsPlayer p table.fuel t old = subst (λ (player : Player). IsPlayer p table.fuel t player) (sym whose) (is.each t old lt) in
+  turn_taken m is lt whose stands_here names may went shows =
       let thread = shown_thread table m t old shows lt whose in
       let there : t < length m.threads = omega (arith, ap length shows.threads, length-map table.players.items thread_of) in
-      let stands : now p t (thread_at m t) ≡ Stands old.stop = ap (λ s. now p t s) thread ∙ player.stands in
-      let by_stop = turn-standing p table.fuel t old.stop m there stands in
-      let word = word_shown table m old.stop shows player.cell in
-      let answer : answered p table.fuel t (word_in old.stop table.cells) (thread_of old) ≡ answered p table.fuel t (word_read old.stop m.cells) (thread_at m t) =
-      ap (λ w. answered p table.fuel t w (thread_of old)) word ∙ ap (λ s. answered p table.fuel t (word_read old.stop m.cells) s) (sym thread) in
+      let stands : now p t (thread_at m t) ≡ Stands stop = ap (λ s. now p t s) thread ∙ stands_here in
+      let by_stop = turn-standing p table.fuel t stop m there stands in
+      let word = word_shown table m stop shows names in
+      let answer : answered p table.fuel t (word_in stop table.cells) (thread_of old) ≡ answered p table.fuel t (word_read stop m.cells) (thread_at m t) =
+      ap (λ w. answered p table.fuel t w (thread_of old)) word ∙ ap (λ s. answered p table.fuel t (word_read stop m.cells) s) (sym thread) in
       let threads = ap (λ (k : Machine). k.threads) by_stop in
       let cells = ap (λ (k : Machine). k.cells) by_stop in
       let lines = ap (λ (k : Machine). k.transcript) by_stop in (
-        can-standing p t old.stop m there stands ∙ sym (may_shown table m t old.stop shows player.cell) ∙ may,
+        can-standing p t stop m there stands ∙ sym (may_shown table m t stop shows names) ∙ may,
         record {
           threads = threads
-              ∙ ap (λ xs. set xs t (settled p table.fuel t (answered p table.fuel t (word_read old.stop m.cells) (thread_at m t)))) shows.threads
+              ∙ ap (λ xs. set xs t (settled p table.fuel t (answered p table.fuel t (word_read stop m.cells) (thread_at m t)))) shows.threads
               ∙ ap (λ s. set (map thread_of table.players.items) t (settled p table.fuel t s)) (sym answer)
               ∙ ap (λ s. set (map thread_of table.players.items) t s) (sym went.settles)
               ∙ sym (map-set thread_of table.players.items t new);
-          cells = λ cell below. cells_shown table m old.stop is shows player.cell cell below ∙ ap (λ f. f cell) (sym cells);
-          holders = λ monitor below. holders_shown table m t old.stop is shows player.cell monitor below ∙ ap (λ (k : Machine). k.holders monitor) (sym by_stop);
+          cells = λ cell below. cells_shown table m stop is shows names cell below ∙ ap (λ f. f cell) (sym cells);
+          holders = λ monitor below. holders_shown table m t stop is shows names monitor below ∙ ap (λ (k : Machine). k.holders monitor) (sym by_stop);
           transcript = went.printed
-              ∙ ap (λ xs. xs ++ transcript_bytes (settled_lines p table.fuel t (answered p table.fuel t (word_in old.stop table.cells) (thread_of old)))) shows.transcript
+              ∙ ap (λ xs. xs ++ transcript_bytes (settled_lines p table.fuel t (answered p table.fuel t (word_in stop table.cells) (thread_of old)))) shows.transcript
               ∙ ap (λ s. transcript_bytes m.transcript ++ transcript_bytes (settled_lines p table.fuel t s)) answer
-              ∙ sym (flat_map-append spelled m.transcript (settled_lines p table.fuel t (answered p table.fuel t (word_read old.stop m.cells) (thread_at m t))))
+              ∙ sym (flat_map-append spelled m.transcript (settled_lines p table.fuel t (answered p table.fuel t (word_read stop m.cells) (thread_at m t))))
               ∙ ap transcript_bytes (sym lines);
         },
       )
 
-module _ (table : Table) (t : ℕ) (old new : Player) (transcript : Listed ℕ) (stop : Stop) (word : ℕ) where
-  abbrev Answered : Type 0
-  Answered = WentOn old.run.program old.run.fuel old.run.thread word old new table.transcript.items transcript.items
-
+module _ (table : Table) (t : ℕ) (old new : Player) (transcript : Listed ℕ) (told stop : Stop) (word : ℕ) (stands : now old.thread.program old.thread.number (thread_of old) ≡ Stands told) (names : NamesCell old.thread.program told) (is_stop : told ≡ stop) (is_word : word ≡ word_in stop table.cells) (went : WentOn old.thread.program old.thread.fuel old.thread.number word old new table.transcript.items transcript.items) (is : IsTable table) (found : slice_get table.players.items t ≡ Some old) where
   abbrev table' : Table
   table' = table_after table t new stop transcript
 
-  player_at : IsTable table → slice_get table.players.items t ≡ Some old → IsPlayer table.program.now table.fuel t old
-  player_at is found =
-      subst (λ (player : Player). IsPlayer table.program.now table.fuel t player) (get_or_from_slice_get table.players.items t old old found) (is.each t old (slice_get_within table.players.items t old found))
+  within : t < length table.players.items
+  within = slice_get_within table.players.items t old found
 
-  went_at : IsPlayer table.program.now table.fuel t old → old.stop ≡ stop → word ≡ word_in stop table.cells → Answered → WentOn table.program.now table.fuel t (word_in old.stop table.cells) old new table.transcript.items transcript.items
-  went_at player e w went =
-      subst (λ (n : ℕ). WentOn table.program.now table.fuel t n old new table.transcript.items transcript.items) (w ∙ ap (λ s. word_in s table.cells) (sym e))
-      (subst (λ (n : ℕ). WentOn table.program.now table.fuel n word old new table.transcript.items transcript.items) player.thread
-      (subst (λ (n : ℕ). WentOn table.program.now n old.run.thread word old new table.transcript.items transcript.items) player.fuel_is
-      (subst (λ (q : Listing). WentOn q old.run.fuel old.run.thread word old new table.transcript.items transcript.items) player.program went)))
+  whose : old ≡ get_or table.players.items t old
+  whose = sym (get_or_from_slice_get table.players.items t old old found)
 
-  pub table_kept : IsTable table → slice_get table.players.items t ≡ Some old → old.stop ≡ stop → word ≡ word_in stop table.cells → Answered → IsTable table'
-  table_kept is found e w went =
-      subst (λ (s : Stop). IsTable (table_after table t new s transcript)) e
-      (still_table table t old new transcript is (slice_get_within table.players.items t old found) (went_at (player_at is found) e w went))
+  thread_is : IsThreadOf table.program.now table.fuel t old.thread
+  thread_is = subst (λ (player : Player). IsThreadOf table.program.now table.fuel t player.thread) (sym whose) ((is.each t old within).is_thread)
 
-  pub turn_shown : IsTable table → slice_get table.players.items t ≡ Some old → old.stop ≡ stop → may_in t stop table.holders ≡ true → word ≡ word_in stop table.cells → Answered → (m : Machine) → Shows table m → (can table.program.now t m ≡ true) × Shows table' (turn table.program.now table.fuel t m)
-  turn_shown is found e may w went m shows =
-      let taken = turn_taken table t old new transcript m is (slice_get_within table.players.items t old found) (sym (get_or_from_slice_get table.players.items t old old found)) (ap (λ s. may_in t s table.holders) e ∙ may) (went_at (player_at is found) e w went) shows in
-      (taken.0, subst (λ (s : Stop). Shows (table_after table t new s transcript) (turn table.program.now table.fuel t m)) e taken.1)
+  stands_there : now table.program.now t (thread_of old) ≡ Stands stop
+  stands_there = sym (ap (λ p. now p old.thread.number (thread_of old)) thread_is.program ∙ ap (λ n. now table.program.now n (thread_of old)) thread_is.which) ∙ stands ∙ ap Stands is_stop
+
+  names_there : NamesCell table.program.now stop
+  names_there = subst (λ (s : Stop). NamesCell table.program.now s) is_stop (subst (λ (p : Listing). NamesCell p told) thread_is.program names)
+
+  went_at : WentOn table.program.now table.fuel t (word_in stop table.cells) old new table.transcript.items transcript.items
+  went_at =
+      subst (λ (n : ℕ). WentOn table.program.now table.fuel t n old new table.transcript.items transcript.items) is_word
+      (subst (λ (n : ℕ). WentOn table.program.now table.fuel n word old new table.transcript.items transcript.items) thread_is.which
+      (subst (λ (n : ℕ). WentOn table.program.now n old.thread.number word old new table.transcript.items transcript.items) thread_is.fuel_is
+      (subst (λ (q : Listing). WentOn q old.thread.fuel old.thread.number word old new table.transcript.items transcript.items) thread_is.program went)))
+
+  pub table_kept : IsTable table'
+  table_kept = still_table table t old new transcript stop is within went_at
+
+  pub turn_shown : may_in t stop table.holders ≡ true → (m : Machine) → Shows table m → (can table.program.now t m ≡ true) × Shows table' (turn table.program.now table.fuel t m)
+  turn_shown may m shows = turn_taken table t old new transcript stop m is within whose stands_there names_there may went_at shows

@@ -1,11 +1,11 @@
 -- The machine of `follow` beside the sequentially consistent machine that it shows. Only private clauses cite this module.
-use Rattle.std.specs.Prelude.{◌≡◌, ℕ, ◌-◌, ◌*◌, ◌<◌, ◌≤◌, ◌++◌, ◌==◌, ◌∷◌, [], if◌then◌else◌, Bool, true, false, List, length, map, slice_index, slice_set, Option, Some, None, Result, Ok, Err}
+use Rattle.std.specs.Prelude.{◌≡◌, ℕ, ◌<◌, ◌≤◌, ◌++◌, ◌==◌, ◌∷◌, [], if◌then◌else◌, Bool, true, false, List, length, map, slice_index, slice_set, Option, Some, None, Result, Ok, Err}
 use Rattle.std.specs.List.{range_with_len, slice_index_or}
 use Rattle.stride_isa.specs.Listing.{Listing, cell_count}
 use Rattle.sc_machine.specs.declared.stop.Stop.{Stop}
 use Rattle.sc_machine.specs.declared.stop.Stop.TheVariants.{Read, Write, Enter, Exit, Ended}
-use Rattle.sc_machine.specs.ThreadStep.{Thread, Stands, start_thread, now, settled, answered}
-use Rattle.sc_machine.specs.ThreadRun.{NamesCell, state}
+use Rattle.sc_machine.specs.StandingThread.{IsThreadOf}
+use Rattle.sc_machine.specs.ThreadStep.{Thread, start_thread, settled, answered}
 use Rattle.sc_machine.specs.Machine.{Machine, is_free_for}
 use Rattle.sc_machine.specs.Schedule.{settled_lines, turns, ready, run_of, refused_place}
 use Rattle.sc_machine.specs.Transcript.{tag, transcript_bytes}
@@ -16,16 +16,11 @@ use Rattle.stride_cli.specs.declared.table.Table.{Table}
 
 -- the thread that a player plays
 abbrev pub thread_of : Player → Thread
-thread_of player = state player.run player.printed.items
+thread_of player = player.thread.state
 
--- it plays this thread of the program with this fuel, and stands where it says, with room for what it may print
+-- it plays this thread of the program with this fuel, under its label
 pub record IsPlayer (p : Listing) (fuel t : ℕ) (player : Player) : Type 0 where
-  pub program : player.run.program ≡ p
-  pub thread : player.run.thread ≡ t
-  pub fuel_is : player.run.fuel ≡ fuel
-  pub stands : now p t (thread_of player) ≡ Stands player.stop
-  pub cell : NamesCell p player.stop
-  pub room : 21 * (fuel - player.run.made) ≤ player.printed.spare
+  pub is_thread : IsThreadOf p fuel t player.thread
   pub label : player.label.items ≡ tag t
 
 -- these bytes with a label before each line; begins tells whether the first byte begins a line
@@ -96,10 +91,6 @@ pub record Shows (table : Table) (m : Machine) : Type 0 where
 pub record SameGame (old new : Table) : Type 0 where
   pub program : new.program ≡ old.program
   pub fuel : new.fuel ≡ old.fuel
-
--- each player stands where it says
-abbrev pub ArePlaying : List Player → Type 0
-ArePlaying players = (t : ℕ) (d : Player) → t < length players → IsPlayer (slice_index_or players t d).run.program (slice_index_or players t d).run.fuel (slice_index_or players t d).run.thread (slice_index_or players t d)
 
 -- the table shows what the schedule leads to
 pub record PlayedTo (old new : Table) (schedule : List ℕ) : Type 0 where

@@ -20,7 +20,7 @@ pub fn follow(alloc: Global, bytes: &[u8]) -> Result<List<u8>, Refusal>
     let input = read_input(alloc, bytes)?;
     let mut table = Table::start(alloc, &input.program, FUEL)?;
     play(&mut table, input.order.as_slice())?;
-    let ends = ends_of(alloc, &mut table.players)?;
+    let ends = ends_of(alloc, table.players)?;
     let mut report = List::new(alloc);
     report.push_all(b"transcript\n")?;
     report.push_all(table.transcript.as_slice())?;

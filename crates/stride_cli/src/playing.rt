@@ -3,7 +3,7 @@ ghost use Rattle.std.specs.Prelude.{◌≡◌, ◌≤◌, None, Some, IfOk, OnOk
 ghost use Rattle.sc_machine.specs.ThreadStep.{end_of};
 ghost use Rattle.sc_machine.specs.Machine.{Machine};
 ghost use Rattle.sc_machine.specs.Schedule.{ready};
-ghost use Rattle.stride_cli.specs.Playing.{ArePlaying, IsTable, Shows, Plays, thread_of};
+ghost use Rattle.stride_cli.specs.Playing.{IsTable, Shows, Plays, thread_of};
 
 use crate::player::Player;
 use crate::table::Table;
@@ -42,14 +42,13 @@ pub fn play(table: &mut Table<'_>, schedule: &[u8]) -> Result<(), PlayError>
 }
 
 /// How each thread ends, in order of number.
-pub fn ends_of(alloc: Global, players: &mut Vec<Player<'_>>) -> Result<Vec<End>, NoMemory>
-    requires { ArePlaying players.old.items }
-    ensures { IfOk result (λ ends. ends.items ≡ map end_of (map thread_of players.old.items)) }
+pub fn ends_of(alloc: Global, players: Vec<Player<'_>>) -> Result<Vec<End>, NoMemory>
+    ensures { IfOk result (λ ends. ends.items ≡ map end_of (map thread_of players.entry.items)) }
 {
     let mut ends = Vec::new(alloc);
-    for at in 0..players.len() {
-        let player = &mut players[at];
-        ends.push(player.end())?;
+    for player in players {
+        let (end, _printed) = player.thread.end();
+        ends.push(end)?;
     }
     Ok(ends)
 }

@@ -55,7 +55,7 @@ impl<'p> Table<'p> {
         let Some(player) = self.players.get_mut(thread as usize) else {
             return Ok(false);
         };
-        match player.stop {
+        match player.thread.stop() {
             Stop::Read { cell } => {
                 let word = self.cells[cell as usize];
                 player.answer(Some(word), &mut self.transcript)?;

@@ -5,33 +5,25 @@ use Rattle.stride_cli.proofs.Turning.{table_kept, turn_shown}
 use Rattle.stride_cli.proofs.table.Table.turn.Goals as goal
 
 pub returns-in_ok-answer-in-Read-clause-table : goal.returns-in_ok-answer-in-Read-clause-table
-returns-in_ok-answer-in-Read-clause-table c =
-    (table_kept c.args.self.now c.args.thread c.in-Some.player.now c.answer.new.self c.answer.new.transcript (Read c.in-Read.cell) (slice_index c.args.self.now.cells c.in-Read.cell) c.requires (slice_get_read c.args.self.now.players.items _ c.args.thread c.in-Some.player.now refl c.in-Some.ensures.item.3.0 c.in-Some.ensures.value) c.in-Read.is refl c.in_ok-answer-in-Read.ensures.went_on, record { program = refl; fuel = refl })
+returns-in_ok-answer-in-Read-clause-table c = (table_kept c.args.self.now c.args.thread c.in-Some.player.now c.answer.new.self c.answer.new.transcript c.stop.result (Read c.in-Read.cell) (slice_index c.args.self.now.cells c.in-Read.cell) c.stop.ensures.stands c.stop.ensures.names_cell c.in-Read.is refl c.in_ok-answer-in-Read.ensures.went_on c.requires (slice_get_read c.args.self.now.players.items _ c.args.thread c.in-Some.player.now refl c.in-Some.ensures.item.3.0 c.in-Some.ensures.value), record { program = refl; fuel = refl })
 
 pub returns-in_ok-answer-in-Read-clause-taken : goal.returns-in_ok-answer-in-Read-clause-taken
-returns-in_ok-answer-in-Read-clause-taken c = λ m shows.
-    turn_shown c.args.self.now c.args.thread c.in-Some.player.now c.answer.new.self c.answer.new.transcript (Read c.in-Read.cell) (slice_index c.args.self.now.cells c.in-Read.cell) c.requires (slice_get_read c.args.self.now.players.items _ c.args.thread c.in-Some.player.now refl c.in-Some.ensures.item.3.0 c.in-Some.ensures.value) c.in-Read.is refl refl c.in_ok-answer-in-Read.ensures.went_on m shows
+returns-in_ok-answer-in-Read-clause-taken c = turn_shown c.args.self.now c.args.thread c.in-Some.player.now c.answer.new.self c.answer.new.transcript c.stop.result (Read c.in-Read.cell) (slice_index c.args.self.now.cells c.in-Read.cell) c.stop.ensures.stands c.stop.ensures.names_cell c.in-Read.is refl c.in_ok-answer-in-Read.ensures.went_on c.requires (slice_get_read c.args.self.now.players.items _ c.args.thread c.in-Some.player.now refl c.in-Some.ensures.item.3.0 c.in-Some.ensures.value) refl
 
 pub returns-in_ok-answer-in-Write-clause-table : goal.returns-in_ok-answer-in-Write-clause-table
-returns-in_ok-answer-in-Write-clause-table c =
-    (table_kept c.args.self.now c.args.thread c.in-Some.player.now c.answer-in-Write.new.self c.answer-in-Write.new.transcript (Write c.in-Write.cell c.in-Write.value) 0 c.requires (slice_get_read c.args.self.now.players.items _ c.args.thread c.in-Some.player.now refl c.in-Some.ensures.item.3.0 c.in-Some.ensures.value) c.in-Write.is refl c.in_ok-answer-in-Write.ensures.went_on, record { program = refl; fuel = refl })
+returns-in_ok-answer-in-Write-clause-table c = (table_kept c.args.self.now c.args.thread c.in-Some.player.now c.answer-in-Write.new.self c.answer-in-Write.new.transcript c.stop.result (Write c.in-Write.cell c.in-Write.value) 0 c.stop.ensures.stands c.stop.ensures.names_cell c.in-Write.is refl c.in_ok-answer-in-Write.ensures.went_on c.requires (slice_get_read c.args.self.now.players.items _ c.args.thread c.in-Some.player.now refl c.in-Some.ensures.item.3.0 c.in-Some.ensures.value), record { program = refl; fuel = refl })
 
 pub returns-in_ok-answer-in-Write-clause-taken : goal.returns-in_ok-answer-in-Write-clause-taken
-returns-in_ok-answer-in-Write-clause-taken c = λ m shows.
-    turn_shown c.args.self.now c.args.thread c.in-Some.player.now c.answer-in-Write.new.self c.answer-in-Write.new.transcript (Write c.in-Write.cell c.in-Write.value) 0 c.requires (slice_get_read c.args.self.now.players.items _ c.args.thread c.in-Some.player.now refl c.in-Some.ensures.item.3.0 c.in-Some.ensures.value) c.in-Write.is refl refl c.in_ok-answer-in-Write.ensures.went_on m shows
+returns-in_ok-answer-in-Write-clause-taken c = turn_shown c.args.self.now c.args.thread c.in-Some.player.now c.answer-in-Write.new.self c.answer-in-Write.new.transcript c.stop.result (Write c.in-Write.cell c.in-Write.value) 0 c.stop.ensures.stands c.stop.ensures.names_cell c.in-Write.is refl c.in_ok-answer-in-Write.ensures.went_on c.requires (slice_get_read c.args.self.now.players.items _ c.args.thread c.in-Some.player.now refl c.in-Some.ensures.item.3.0 c.in-Some.ensures.value) refl
 
 pub returns-in_ok-answer-in-Enter-clause-table : goal.returns-in_ok-answer-in-Enter-clause-table
-returns-in_ok-answer-in-Enter-clause-table c =
-    (table_kept c.args.self.now c.args.thread c.in-Some.player.now c.answer-in-Enter.new.self c.answer-in-Enter.new.transcript (Enter c.in-Enter.mon) 0 c.requires (slice_get_read c.args.self.now.players.items _ c.args.thread c.in-Some.player.now refl c.in-Some.ensures.item.3.0 c.in-Some.ensures.value) c.in-Enter.is refl c.in_ok-answer-in-Enter.ensures.went_on, record { program = refl; fuel = refl })
+returns-in_ok-answer-in-Enter-clause-table c = (table_kept c.args.self.now c.args.thread c.in-Some.player.now c.answer-in-Enter.new.self c.answer-in-Enter.new.transcript c.stop.result (Enter c.in-Enter.mon) 0 c.stop.ensures.stands c.stop.ensures.names_cell c.in-Enter.is refl c.in_ok-answer-in-Enter.ensures.went_on c.requires (slice_get_read c.args.self.now.players.items _ c.args.thread c.in-Some.player.now refl c.in-Some.ensures.item.3.0 c.in-Some.ensures.value), record { program = refl; fuel = refl })
 
 pub returns-in_ok-answer-in-Enter-clause-taken : goal.returns-in_ok-answer-in-Enter-clause-taken
-returns-in_ok-answer-in-Enter-clause-taken c = λ m shows.
-    turn_shown c.args.self.now c.args.thread c.in-Some.player.now c.answer-in-Enter.new.self c.answer-in-Enter.new.transcript (Enter c.in-Enter.mon) 0 c.requires (slice_get_read c.args.self.now.players.items _ c.args.thread c.in-Some.player.now refl c.in-Some.ensures.item.3.0 c.in-Some.ensures.value) c.in-Enter.is (sym c.is_free_for.ensures ∙ c.if-not-is_free_for.false) refl c.in_ok-answer-in-Enter.ensures.went_on m shows
+returns-in_ok-answer-in-Enter-clause-taken c = turn_shown c.args.self.now c.args.thread c.in-Some.player.now c.answer-in-Enter.new.self c.answer-in-Enter.new.transcript c.stop.result (Enter c.in-Enter.mon) 0 c.stop.ensures.stands c.stop.ensures.names_cell c.in-Enter.is refl c.in_ok-answer-in-Enter.ensures.went_on c.requires (slice_get_read c.args.self.now.players.items _ c.args.thread c.in-Some.player.now refl c.in-Some.ensures.item.3.0 c.in-Some.ensures.value) (sym c.is_free_for.ensures ∙ c.if-not-is_free_for.false)
 
 pub returns-in_ok-answer-in-Exit-clause-table : goal.returns-in_ok-answer-in-Exit-clause-table
-returns-in_ok-answer-in-Exit-clause-table c =
-    (table_kept c.args.self.now c.args.thread c.in-Some.player.now c.answer-in-Exit.new.self c.answer-in-Exit.new.transcript (Exit c.in-Exit.mon) 0 c.requires (slice_get_read c.args.self.now.players.items _ c.args.thread c.in-Some.player.now refl c.in-Some.ensures.item.3.0 c.in-Some.ensures.value) c.in-Exit.is refl c.in_ok-answer-in-Exit.ensures.went_on, record { program = refl; fuel = refl })
+returns-in_ok-answer-in-Exit-clause-table c = (table_kept c.args.self.now c.args.thread c.in-Some.player.now c.answer-in-Exit.new.self c.answer-in-Exit.new.transcript c.stop.result (Exit c.in-Exit.mon) 0 c.stop.ensures.stands c.stop.ensures.names_cell c.in-Exit.is refl c.in_ok-answer-in-Exit.ensures.went_on c.requires (slice_get_read c.args.self.now.players.items _ c.args.thread c.in-Some.player.now refl c.in-Some.ensures.item.3.0 c.in-Some.ensures.value), record { program = refl; fuel = refl })
 
 pub returns-in_ok-answer-in-Exit-clause-taken : goal.returns-in_ok-answer-in-Exit-clause-taken
-returns-in_ok-answer-in-Exit-clause-taken c = λ m shows.
-    turn_shown c.args.self.now c.args.thread c.in-Some.player.now c.answer-in-Exit.new.self c.answer-in-Exit.new.transcript (Exit c.in-Exit.mon) 0 c.requires (slice_get_read c.args.self.now.players.items _ c.args.thread c.in-Some.player.now refl c.in-Some.ensures.item.3.0 c.in-Some.ensures.value) c.in-Exit.is refl refl c.in_ok-answer-in-Exit.ensures.went_on m shows
+returns-in_ok-answer-in-Exit-clause-taken c = turn_shown c.args.self.now c.args.thread c.in-Some.player.now c.answer-in-Exit.new.self c.answer-in-Exit.new.transcript c.stop.result (Exit c.in-Exit.mon) 0 c.stop.ensures.stands c.stop.ensures.names_cell c.in-Exit.is refl c.in_ok-answer-in-Exit.ensures.went_on c.requires (slice_get_read c.args.self.now.players.items _ c.args.thread c.in-Some.player.now refl c.in-Some.ensures.item.3.0 c.in-Some.ensures.value) refl
