@@ -6,3 +6,4 @@ pub mod Loops
 pub mod Ranges
 pub mod RoundTrip
 pub mod Threads
+pub mod Written

@@ -1,9 +1,9 @@
 -- The laws of bundles: what is spelled is read again, and what is read is spelled so.
-use Rattle.std.proofs.Common.{◌≡◌, ℕ, ◌^◌, ◌≤◌, cond, eqb, List, [], ◌++◌, length, Result, Ok, Err, refl, sym, ap, subst, ◌∙◌, append_assoc, arith}
+use Rattle.std.proofs.Common.{◌≡◌, ℕ, ◌-◌, ◌^◌, ◌≤◌, cond, eqb, List, [], ◌++◌, length, Result, Ok, Err, refl, sym, ap, subst, ◌∙◌, append_assoc, arith, length-append}
 use Rattle.std.specs.Prelude.{IfOk}
 use Rattle.std.specs.Int.{w16, w32, to_be_bytes}
 use Rattle.std.specs.List.{flat_map}
-use Rattle.std.proofs.lemmas.Bool.{eqb-true}
+use Rattle.std.proofs.lemmas.Bool.{eqb-true, ne_eqb}
 use Rattle.std.proofs.lemmas.List.{append-nil, nil_from_length}
 use Rattle.log_format.specs.declared.bundle.Bundle.{Bundle}
 use Rattle.log_format.specs.declared.fault.Fault.{Fault}
@@ -11,7 +11,7 @@ use Rattle.log_format.specs.declared.format_error.FormatError.{FormatError}
 use Rattle.log_format.specs.declared.format_error.FormatKind.TheVariants.{Long}
 use Rattle.log_format.specs.Answers.{IsAnswer}
 use Rattle.log_format.specs.Bundles.{Bundled, bundled, IsBytes, IsInRange, IsWithin}
-use Rattle.log_format.specs.Laws.{IsSpelled, SpellingIsRead, ReadIsSpelled, NoSpellingBeginsAnother}
+use Rattle.log_format.specs.Laws.{IsSpelled, SpellingIsRead, ReadIsSpelled, NoSpellingBeginsAnother, MoreIsLong}
 use Rattle.log_format.specs.Reading.{◌>>=◌, fault, magic_at, number_up_to, fuel_at, text_at, logs_at, bundle_at, placed, reading}
 use Rattle.log_format.specs.Spelling.{magic, log_bytes, logs_bytes, text_bytes, spelling}
 use Rattle.log_format.proofs.Fields.{bind_ok, guard_passed, Takes, Takes-then, wide16, magic_takes, magic_again, up_to_takes, up_to_again, fuel_takes, fuel_again, text_takes, text_again}
@@ -42,6 +42,16 @@ bundle_whole bundle fits = ap bundle_at (sym (append-nil (spelling bundle))) ∙
 
 pub spelling_is_read : SpellingIsRead
 spelling_is_read bundle fits = ap (placed (length (spelling bundle))) (bundle_whole bundle fits)
+
+-- the bytes behind a whole bundle
+behind_whole : (bundle : Bundled) (more : List ℕ) → ¬ (more ≡ []) → ended bundle more ≡ Err (fault Long more)
+behind_whole bundle more there = ap (λ b. cond b (Ok bundle) (Err (fault Long more))) (ne_eqb (length more) 0 (λ e. there (nil_from_length more e)))
+
+pub more_is_long : MoreIsLong
+more_is_long bundle more fits there =
+    let size : length (spelling bundle ++ more) - length more ≡ length (spelling bundle) = omega (arith, length-append (spelling bundle) more) in
+    ap (placed (length (spelling bundle ++ more))) (bundle_again bundle more fits ∙ behind_whole bundle more there)
+    ∙ ap (λ offset. Err (record { kind = Long; offset = offset })) size
 
 -- ---- what is read is spelled so
 

@@ -1,6 +1,6 @@
 -- What holds of the spelling and the reading of bundles together.
 use Rattle.std.specs.Prelude.{◌≡◌, ℕ, List, [], ◌++◌, length, Ok, Err}
-use Rattle.log_format.specs.declared.format_error.FormatKind.TheVariants.{Short}
+use Rattle.log_format.specs.declared.format_error.FormatKind.TheVariants.{Short, Long}
 use Rattle.log_format.specs.Bundles.{Bundled, IsBytes, IsInRange}
 use Rattle.log_format.specs.Reading.{reading}
 use Rattle.log_format.specs.Spelling.{spelling}
@@ -26,3 +26,8 @@ NoSpellingBeginsAnother =
 abbrev pub CutIsShort : Type 0
 CutIsShort =
     (bundle : Bundled) (front back : List ℕ) → IsInRange bundle → front ++ back ≡ spelling bundle → ¬ (back ≡ []) → reading front ≡ Err (record { kind = Short; offset = length front })
+
+-- a spelling with more bytes behind it is too long, at its own length
+abbrev pub MoreIsLong : Type 0
+MoreIsLong =
+    (bundle : Bundled) (more : List ℕ) → IsInRange bundle → ¬ (more ≡ []) → reading (spelling bundle ++ more) ≡ Err (record { kind = Long; offset = length (spelling bundle) })

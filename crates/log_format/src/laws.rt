@@ -1,5 +1,5 @@
 //! What holds of the definitions of bundles together, each law as the contract of a function that does nothing.
-ghost use Rattle.log_format.specs.Laws.{SpellingIsRead, ReadIsSpelled, NoSpellingBeginsAnother, CutIsShort};
+ghost use Rattle.log_format.specs.Laws.{SpellingIsRead, ReadIsSpelled, NoSpellingBeginsAnother, CutIsShort, MoreIsLong};
 
 /// The spelling of a bundle reads as this bundle.
 pub fn spelling_is_read()
@@ -19,4 +19,9 @@ pub fn no_spelling_begins_another()
 /// A spelling that is cut off within is short, at the length that is left of it.
 pub fn cut_is_short()
     ensures { CutIsShort }
+{}
+
+/// A spelling with more bytes behind it is too long, at its own length.
+pub fn more_is_long()
+    ensures { MoreIsLong }
 {}

@@ -20,7 +20,9 @@ pub use bundle::Bundle;
 pub use decoding::decode;
 pub use encoding::encode;
 pub use format_error::{FormatError, FormatKind};
-pub use laws::{cut_is_short, no_spelling_begins_another, read_is_spelled, spelling_is_read};
+pub use laws::{
+    cut_is_short, more_is_long, no_spelling_begins_another, read_is_spelled, spelling_is_read,
+};
 
 #[cfg(test)]
 mod tests;
