@@ -2,7 +2,8 @@
 //!
 //! Owns: events and log entries (`Events`), the twelve kinds of atomic steps (`AtomicStep`), histories of such steps
 //! (`History`), the recording that an order gives (`Recording`), what running a thread again by its log comes to
-//! (`Following`), and the laws that the recording's steps are a history and that following its logs gives it back (`Laws`).
+//! (`Following`), and the laws that the recording's steps are a history and that following its logs gives its events, its
+//! outputs and its ends (`Laws`).
 //! The layer above may rely on this: `drive` gives exactly that recording, and an event of `Traces` is seen by `at` alone.
 #![tactic(auto)]
 

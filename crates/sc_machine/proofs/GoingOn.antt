@@ -16,8 +16,8 @@ went_on old mid new printed printed' word answers same settles same' =
     ∙ ap (λ n. record { program = old.program; number = n; fuel = new.fuel; state = state new printed'.items }) (same'.thread ∙ same.thread)
     ∙ ap (λ f. record { program = old.program; number = old.thread; fuel = f; state = state new printed'.items }) (same'.fuel ∙ same.fuel)
     ∙ ap (λ x. record { program = old.program; number = old.thread; fuel = old.fuel; state = x })
-        (settles
-        ∙ ap (λ p. settled p mid.fuel mid.thread s) same.program
-        ∙ ap (λ f. settled old.program f mid.thread s) same.fuel
-        ∙ ap (λ n. settled old.program old.fuel n s) same.thread
-        ∙ ap (settled old.program old.fuel old.thread) (answers printed.items))
+    (settles
+    ∙ ap (λ p. settled p mid.fuel mid.thread s) same.program
+    ∙ ap (λ f. settled old.program f mid.thread s) same.fuel
+    ∙ ap (λ n. settled old.program old.fuel n s) same.thread
+    ∙ ap (settled old.program old.fuel old.thread) (answers printed.items))

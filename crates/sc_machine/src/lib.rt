@@ -1,9 +1,10 @@
 //! One thread's run, and the sequentially consistent machine.
 //!
-//! Owns: the step of a thread (`ThreadStep`), what contracts see of a run of one thread (`ThreadRun`), the machine
-//! (`Machine`), its schedules (`Schedule`), its transcripts (`Transcript`), and the laws of its runs (`Laws`).
-//! The layer above may rely on this: `ThreadRun::local` and `ThreadRun::answer` are the thread step, and whole turns
-//! do what the single steps of the machine do.
+//! Owns: the step of a thread (`ThreadStep`), what contracts see of a run of one thread (`ThreadRun`) and of one with its
+//! output (`StandingThread`), the machine (`Machine`), its schedules (`Schedule`), its transcripts (`Transcript`), and the
+//! laws of its runs (`Laws`).
+//! The layer above may rely on this: `ThreadRun::local` and `ThreadRun::answer` are the thread step, which a
+//! `StandingThread` makes with the output in its own hands, and whole turns do what the single steps of the machine do.
 #![tactic(auto)]
 
 mod end;

@@ -46,7 +46,7 @@ fn rerun_thread(
 }
 
 /// Runs each thread of the program again by its code, where its log answers its reads, its writes and its entries into
-/// monitors. Where a log has no more for its thread, the thread is stopped.
+/// monitors. Where the log is used up before one of these, the thread is stopped there.
 pub fn rerun(
     alloc: Global,
     program: &Checked,
