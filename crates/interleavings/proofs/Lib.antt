@@ -14,6 +14,7 @@ pub mod Happening
 pub mod HeldFlags
 pub mod InPlace
 pub mod LetGo
+pub mod LogsUsed
 pub mod OddNumbers
 pub mod Row
 pub mod Settling

@@ -87,7 +87,7 @@ exit_met (stops.Exit at) next turns monitor turn met = met
 exit_met (stops.Ended end) next turns monitor turn met = cc
 
 -- the entry at a seam
-entry_at_seam : (front : List LogEntry) (entry : LogEntry) (rest : List LogEntry) → slice_get (front ++ entry ∷ rest) (length front) ≡ Some entry
+pub entry_at_seam : (front : List LogEntry) (entry : LogEntry) (rest : List LogEntry) → slice_get (front ++ entry ∷ rest) (length front) ≡ Some entry
 entry_at_seam [] entry rest = refl
 entry_at_seam (e ∷ front) entry rest = entry_at_seam front entry rest
 
@@ -99,14 +99,14 @@ met_in_log stop turns front (events.Enter monitor turn) es met = ap (λ next. me
 met_in_log stop turns front (events.Exit monitor turn) es met = exit_met stop _ turns monitor turn met
 
 -- the log with the entry of the first event put to the front
-front_moved : (front : List LogEntry) (event : Event) (es : List Event) → front ++ log_of (event ∷ es) ≡ (front ++ log_of (event ∷ [])) ++ log_of es
+pub front_moved : (front : List LogEntry) (event : Event) (es : List Event) → front ++ log_of (event ∷ es) ≡ (front ++ log_of (event ∷ [])) ++ log_of es
 front_moved front (events.Read cell value bound) es = sym (append_assoc front (entries.Read value bound ∷ []) (log_of es))
 front_moved front (events.Write cell value number) es = sym (append_assoc front (entries.Write number ∷ []) (log_of es))
 front_moved front (events.Enter monitor turn) es = sym (append_assoc front (entries.Enter turn ∷ []) (log_of es))
 front_moved front (events.Exit monitor turn) es = sym (append_assoc front [] (log_of es))
 
 -- the place behind its entry
-place_moved : (front : List LogEntry) (event : Event) → place_after event (length front) ≡ length (front ++ log_of (event ∷ []))
+pub place_moved : (front : List LogEntry) (event : Event) → place_after event (length front) ≡ length (front ++ log_of (event ∷ []))
 place_moved front (events.Read cell value bound) = sym (length-append front (entries.Read value bound ∷ []))
 place_moved front (events.Write cell value number) = sym (length-append front (entries.Write number ∷ []))
 place_moved front (events.Enter monitor turn) = sym (length-append front (entries.Enter turn ∷ []))

@@ -29,7 +29,7 @@ pub use driven::{DriveError, Driven};
 pub use driving::drive;
 pub use event::{Event, LogEntry, entry_of};
 pub use kind::Kind;
-pub use laws::{driven_is_a_history, driven_is_followed};
+pub use laws::{driven_is_a_history, driven_is_followed, followed_uses_its_log};
 pub use traces::{Place, Traces};
 
 #[cfg(test)]

@@ -12,7 +12,7 @@ use Rattle.sc_machine.proofs.Steps.{local_steps-standing}
 abbrev pub HasFuel : ℕ → Thread → Type 0
 HasFuel fuel s = s.ended ≡ None → s.made < fuel
 
-moved-has_fuel : (fuel : ℕ) (r : Row) (s : Thread) → HasFuel fuel s → HasFuel fuel (moved fuel r s)
+pub moved-has_fuel : (fuel : ℕ) (r : Row) (s : Thread) → HasFuel fuel s → HasFuel fuel (moved fuel r s)
 moved-has_fuel fuel (Goes pc stack locals printed) s h = λ e. fuel_left fuel (s.made + 1) e
 moved-has_fuel fuel (Ends end) s h = λ e. cc
 moved-has_fuel fuel (Stands stop) s h = h
