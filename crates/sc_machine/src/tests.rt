@@ -61,7 +61,6 @@ fn stops_are_told_and_answered(rt: HostRuntime) -> Result<(), Fail> {
     };
     writer.answer(None);
     assert!(rt; writer.local(&mut out) == Stop::Ended { end: End::Halted });
-    assert!(rt; writer.ended() == Some(End::Halted));
 
     let mut out = List::new(rt.alloc());
     out.reserve(210)?;
@@ -92,7 +91,28 @@ fn a_thread_is_given_up(rt: HostRuntime) -> Result<(), Fail> {
                 end: End::Stopped { pc: 1 }
             }
     );
-    assert_eq!(rt; writer.thread(), 0);
+    Ok(())
+}
+
+#[test]
+fn a_thread_keeps_its_output(rt: HostRuntime) -> Result<(), Fail> {
+    let checked = two_threads(rt.alloc(), &WRITES, &READS)?;
+    let mut reader = StandingThread::start(rt.alloc(), &checked, 1, 10)?;
+    let Stop::Read { .. } = reader.stop() else {
+        return Err("no read")?;
+    };
+    reader.answer(Some(7));
+    assert!(rt; reader.printed() == b"7\n".as_slice());
+    let (end, printed) = reader.end();
+    assert!(rt; end == End::Halted && printed.as_slice() == b"7\n".as_slice());
+
+    let mut writer = StandingThread::start(rt.alloc(), &checked, 0, 10)?;
+    let Stop::Write { .. } = writer.stop() else {
+        return Err("no write")?;
+    };
+    writer.give_up();
+    let (end, printed) = writer.end();
+    assert!(rt; end == End::Stopped { pc: 1 } && printed.is_empty());
     Ok(())
 }
 

@@ -177,18 +177,4 @@ impl<'p> ThreadRun<'p> {
     {
         self.held[monitor as usize]
     }
-
-    /// The thread's number.
-    pub fn thread(&self) -> u32
-        ensures { result ≡ self.now.thread }
-    {
-        self.thread
-    }
-
-    /// The thread's end, if it has ended.
-    pub fn ended(&self) -> Option<End>
-        ensures { result ≡ self.now.ended }
-    {
-        self.ended
-    }
 }
