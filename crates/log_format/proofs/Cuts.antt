@@ -15,10 +15,10 @@ use Rattle.log_format.proofs.Fields.{bind_ok, guard_ok, guard_passed, ok_is}
 use Rattle.log_format.proofs.RoundTrip.{bundle_whole}
 
 -- a part is read of the front alone, or the front is short of it
-abbrev Cut : {A : Type 0} → (List ℕ → Result (A × List ℕ) Fault) → List ℕ → List ℕ → A → List ℕ → Type 0
+abbrev pub Cut : {A : Type 0} → (List ℕ → Result (A × List ℕ) Fault) → List ℕ → List ℕ → A → List ℕ → Type 0
 Cut read front back x rest = (read front ≡ Err short) ⊎ ((more : List ℕ) × (read front ≡ Ok (x, more)) × (rest ≡ more ++ back))
 
-abbrev Cuts : {A : Type 0} → (List ℕ → Result (A × List ℕ) Fault) → Type 0
+abbrev pub Cuts : {A : Type 0} → (List ℕ → Result (A × List ℕ) Fault) → Type 0
 Cuts {A = A} read = (front back : List ℕ) (x : A) (rest : List ℕ) → read (front ++ back) ≡ Ok (x, rest) → Cut read front back x rest
 
 -- ---- how the readings of parts are put together
@@ -62,7 +62,7 @@ cuts_tested {A = A} read test wrong h front back y rest e =
     ]
 
 -- so many bytes, seen as something
-abbrev piece : {A : Type 0} → ℕ → (List ℕ → A) → List ℕ → Result (A × List ℕ) Fault
+abbrev pub piece : {A : Type 0} → ℕ → (List ℕ → A) → List ℕ → Result (A × List ℕ) Fault
 piece n view bytes = cond (ltb (length bytes) n) (Err short) (Ok (view (take n bytes), drop n bytes))
 
 cuts_piece : {A : Type 0} (n : ℕ) (view : List ℕ → A) → Cuts (piece n view)
@@ -78,18 +78,18 @@ cuts_piece {A = A} n view front back x rest e =
 
 -- ---- the parts
 
-number_cuts : (w : Width) → Cuts (number_at w)
+pub number_cuts : (w : Width) → Cuts (number_at w)
 number_cuts w = cuts_piece (byte_len w) (from_be_bytes w)
 
-up_to_cuts : (w : Width) (limit : ℕ) → Cuts (number_up_to w limit)
+pub up_to_cuts : (w : Width) (limit : ℕ) → Cuts (number_up_to w limit)
 unfolding number_up_to
 up_to_cuts w limit = cuts_tested (number_at w) (λ n. ltb limit n) (λ bytes. fault BadCount bytes) (number_cuts w)
 
-fuel_cuts : Cuts fuel_at
+pub fuel_cuts : Cuts fuel_at
 unfolding fuel_at
 fuel_cuts = cuts_tested (number_up_to w32 1000000) (λ n. eqb n 0) (λ bytes. fault BadCount bytes) (up_to_cuts w32 1000000)
 
-text_cuts : Cuts text_at
+pub text_cuts : Cuts text_at
 unfolding text_at
 text_cuts = cuts_then (number_at w32) (λ n. cond (ltb (length n.1) n.0) (Err short) (Ok (take n.0 n.1, drop n.0 n.1))) (number_cuts w32) (λ n. cuts_piece n (λ text. text))
 
@@ -117,23 +117,23 @@ fields_cuts tag =
     let second = cuts_chosen (eqb tag 2) write_at (λ fields. cond (eqb tag 3) (enter_at fields) (Err (fault BadTag (tag ∷ fields)))) write_cuts third in
     cuts_chosen (eqb tag 1) read_at (λ fields. cond (eqb tag 2) (write_at fields) (cond (eqb tag 3) (enter_at fields) (Err (fault BadTag (tag ∷ fields))))) read_cuts second
 
-entry_cuts : Cuts entry_at
+pub entry_cuts : Cuts entry_at
 unfolding entry_at
 entry_cuts [] back x rest e = inl refl
 entry_cuts (tag ∷ fields) back x rest e = fields_cuts tag fields back x rest e
 
-entries_cuts : (count : ℕ) → Cuts (entries_at count)
+pub entries_cuts : (count : ℕ) → Cuts (entries_at count)
 unfolding entries_at
 entries_cuts zero = cuts_done []
 entries_cuts (suc count) =
     cuts_then entry_at (λ first. entries_at count first.1 >>= λ others. Ok (first.0 ∷ others.0, others.1)) entry_cuts
     (λ first. cuts_then (entries_at count) (λ others. Ok (first ∷ others.0, others.1)) (entries_cuts count) (λ others. cuts_done (first ∷ others)))
 
-log_cuts : (fuel : ℕ) → Cuts (log_at fuel)
+pub log_cuts : (fuel : ℕ) → Cuts (log_at fuel)
 unfolding log_at
 log_cuts fuel = cuts_then (number_up_to w32 fuel) (λ count. entries_at count.0 count.1) (up_to_cuts w32 fuel) (λ count. entries_cuts count)
 
-logs_cuts : (fuel threads : ℕ) → Cuts (logs_at fuel threads)
+pub logs_cuts : (fuel threads : ℕ) → Cuts (logs_at fuel threads)
 unfolding logs_at
 logs_cuts fuel zero = cuts_done []
 logs_cuts fuel (suc threads) =
@@ -166,7 +166,7 @@ ends_ended made front back bundle e =
     inr (nil_from_length back (omega (arith, length-append front back)))
 
 -- all behind the magic bytes
-abbrev after_magic : List ℕ → Result Bundled Fault
+abbrev pub after_magic : List ℕ → Result Bundled Fault
 after_magic rest = fuel_at rest >>= λ fuel. text_at fuel.1 >>= λ text. number_up_to w16 16 text.1 >>= λ threads. logs_at fuel.0 threads.0 threads.1 >>= λ logs. cond (eqb (length logs.1) 0) (Ok (record { fuel = fuel.0; text = text.0; logs = logs.0 })) (Err (fault Long logs.1))
 
 after_magic_ends : Ends after_magic
@@ -212,7 +212,7 @@ bundle_ends front back bundle e =
           ]
     ]
 
-short_at_its_length : (bytes : List ℕ) → bundle_at bytes ≡ Err short → placed (length bytes) (bundle_at bytes) ≡ Err (record { kind = Short; offset = length bytes })
+pub short_at_its_length : (bytes : List ℕ) → bundle_at bytes ≡ Err short → placed (length bytes) (bundle_at bytes) ≡ Err (record { kind = Short; offset = length bytes })
 short_at_its_length bytes few =
     let all : length bytes - 0 ≡ length bytes = omega arith in
     ap (placed (length bytes)) few ∙ ap (λ (n : ℕ). let refused : Refusal = record { kind = Short; offset = n } in Err refused) all

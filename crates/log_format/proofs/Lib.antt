@@ -3,6 +3,7 @@ pub mod Cuts
 pub mod Entries
 pub mod Fields
 pub mod Loops
+pub mod Places
 pub mod Ranges
 pub mod RoundTrip
 pub mod Threads

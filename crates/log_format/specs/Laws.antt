@@ -1,6 +1,7 @@
 -- What holds of the spelling and the reading of bundles together.
-use Rattle.std.specs.Prelude.{◌≡◌, ℕ, List, [], ◌++◌, length, Ok, Err}
-use Rattle.log_format.specs.declared.format_error.FormatKind.TheVariants.{Short, Long}
+use Rattle.std.specs.Prelude.{◌≡◌, ◌<◌, ℕ, List, [], ◌++◌, length, take, Ok, Err}
+use Rattle.log_format.specs.declared.format_error.FormatKind.{FormatKind}
+use Rattle.log_format.specs.declared.format_error.FormatKind.TheVariants.{Short, BadMagic, BadTag, BadCount, Long}
 use Rattle.log_format.specs.Bundles.{Bundled, IsBytes, IsInRange}
 use Rattle.log_format.specs.Reading.{reading}
 use Rattle.log_format.specs.Spelling.{spelling}
@@ -31,3 +32,17 @@ CutIsShort =
 abbrev pub MoreIsLong : Type 0
 MoreIsLong =
     (bundle : Bundled) (more : List ℕ) → IsInRange bundle → ¬ (more ≡ []) → reading (spelling bundle ++ more) ≡ Err (record { kind = Long; offset = length (spelling bundle) })
+
+-- a byte or a number is wrong, in place of the end of the bytes
+abbrev pub TellsWrong : FormatKind → Type 0
+TellsWrong Short = ⊥
+TellsWrong BadMagic = Unit {0}
+TellsWrong BadTag = Unit {0}
+TellsWrong BadCount = Unit {0}
+TellsWrong Long = ⊥
+
+-- what is refused for a byte or a number that is wrong is, up to the offset that is told, short of a bundle: nothing is wrong
+-- before it
+abbrev pub NothingWrongBefore : Type 0
+NothingWrongBefore =
+    (bytes : List ℕ) (kind : FormatKind) (offset : ℕ) → TellsWrong kind → reading bytes ≡ Err (record { kind = kind; offset = offset }) → (offset < length bytes) × (reading (take offset bytes) ≡ Err (record { kind = Short; offset = offset }))

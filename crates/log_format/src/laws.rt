@@ -1,5 +1,5 @@
 //! What holds of the definitions of bundles together, each law as the contract of a function that does nothing.
-ghost use Rattle.log_format.specs.Laws.{SpellingIsRead, ReadIsSpelled, NoSpellingBeginsAnother, CutIsShort, MoreIsLong};
+ghost use Rattle.log_format.specs.Laws.{SpellingIsRead, ReadIsSpelled, NoSpellingBeginsAnother, CutIsShort, MoreIsLong, NothingWrongBefore};
 
 /// The spelling of a bundle reads as this bundle.
 pub fn spelling_is_read()
@@ -24,4 +24,9 @@ pub fn cut_is_short()
 /// A spelling with more bytes behind it is too long, at its own length.
 pub fn more_is_long()
     ensures { MoreIsLong }
+{}
+
+/// Bytes that are refused for a wrong byte or number are, up to the offset that is told, only short of a bundle.
+pub fn nothing_wrong_before()
+    ensures { NothingWrongBefore }
 {}

@@ -21,7 +21,8 @@ pub use decoding::decode;
 pub use encoding::encode;
 pub use format_error::{FormatError, FormatKind};
 pub use laws::{
-    cut_is_short, more_is_long, no_spelling_begins_another, read_is_spelled, spelling_is_read,
+    cut_is_short, more_is_long, no_spelling_begins_another, nothing_wrong_before, read_is_spelled,
+    spelling_is_read,
 };
 
 #[cfg(test)]
