@@ -10,12 +10,12 @@ use stride_isa::{Checked, check};
 use thread_rerun::{Rerun, RerunError, rerun};
 
 /// One thread writes 4 into a variable, reads it and prints what it read.
-const WRITING: &[u8] = b"var x 0\nthread\npush 4\nwrite x\nread x\nprint\nhalt\n";
+pub(crate) const WRITING: &[u8] = b"var x 0\nthread\npush 4\nwrite x\nread x\nprint\nhalt\n";
 
 /// One thread reads a variable and prints it, and another writes 7 into it.
 const PUBLISH: &[u8] = b"var x 0\nthread\nread x\nprint\nhalt\nthread\npush 7\nwrite x\nhalt\n";
 
-/// One thread enters a monitor, leaves it, and divides by zero inside it.
+/// One thread enters a monitor, leaves it, enters it again, and divides by zero inside it.
 const TRAPPING: &[u8] =
     b"monitor m\nthread\nenter m\nexit m\nenter m\npush 1\npush 0\ndiv\nprint\nhalt\n";
 
@@ -32,19 +32,23 @@ const fn enter(turn: u32) -> LogEntry {
 }
 
 /// The program of a text.
-fn program_of(alloc: Global, text: &[u8]) -> Result<Checked, Fail> {
-    if text.len() > 1000 {
+pub(crate) fn program_of(alloc: Global, text: &[u8]) -> Result<Checked, Fail> {
+    if text.len() > 10_000 {
         return Err("a long text")?;
     }
     Ok(check(alloc, assemble(alloc, text)?)?)
 }
 
-/// The threads of a text run again by these logs, each with at most a hundred instructions.
+/// The threads of a text run again by these logs, each with at most so many instructions.
 fn run_again(
     alloc: Global,
     text: &[u8],
+    fuel: u32,
     logs: &[&[LogEntry]],
 ) -> Result<Result<Rerun, RerunError>, Fail> {
+    if fuel == 0 || fuel > 1000 {
+        return Err("no fuel, or much of it")?;
+    }
     let program = program_of(alloc, text)?;
     let mut lists = List::new(alloc);
     for log in logs {
@@ -52,43 +56,67 @@ fn run_again(
         list.push_all(log)?;
         lists.push(list)?;
     }
-    Ok(rerun(alloc, &program, 100, &lists))
+    Ok(rerun(alloc, &program, fuel, &lists))
 }
 
-/// Whether one thread printed this and ended so.
-fn is_one(rerun: &Rerun, output: &[u8], end: End) -> bool {
+/// Whether one thread made so many events, printed this and ended so.
+fn is_one(rerun: &Rerun, events: u32, output: &[u8], end: End) -> bool {
     match (rerun.outputs.as_slice(), rerun.ends.as_slice()) {
-        ([only], [last]) => only.as_slice() == output && *last == end,
+        ([only], [last]) => {
+            rerun.traces.threads() == 1
+                && rerun.traces.count(0) == events
+                && only.as_slice() == output
+                && *last == end
+        }
         _ => false,
     }
 }
 
 #[test]
 fn threads_run_again_as_far_as_their_logs(rt: HostRuntime) -> Result<(), Fail> {
-    let rows: [(&[u8], &[LogEntry], &[u8], End); 4] = [
-        (WRITING, &[write(1), read(4, 1)], b"4\n", End::Halted),
-        (WRITING, &[write(1)], b"", End::Stopped { pc: 2 }),
-        (WRITING, &[write(9), read(5, 0)], b"5\n", End::Halted),
+    let rows: [(&[u8], u32, &[LogEntry], u32, &[u8], End); 6] = [
+        (
+            WRITING,
+            100,
+            &[write(1), read(4, 1)],
+            2,
+            b"4\n",
+            End::Halted,
+        ),
+        (WRITING, 100, &[write(1)], 1, b"", End::Stopped { pc: 2 }),
+        (
+            WRITING,
+            100,
+            &[write(9), read(5, 0)],
+            2,
+            b"5\n",
+            End::Halted,
+        ),
         (
             TRAPPING,
+            100,
             &[enter(3), enter(5)],
+            3,
             b"",
             End::Trapped {
                 trap: Trap::DivZero,
                 pc: 5,
             },
         ),
+        // The exit behind the entry is made without an entry of the log.
+        (TRAPPING, 100, &[enter(1)], 2, b"", End::Stopped { pc: 2 }),
+        (TRAPPING, 1, &[enter(1)], 1, b"", End::OutOfSteps),
     ];
-    for (text, log, output, end) in rows {
-        let again = run_again(rt.alloc(), text, &[log])??;
-        assert!(rt; is_one(&again, output, end));
+    for (text, fuel, log, events, output, end) in rows {
+        let again = run_again(rt.alloc(), text, fuel, &[log])??;
+        assert!(rt; is_one(&again, events, output, end), "{log:?}");
     }
     Ok(())
 }
 
-/// What is told of a program and logs that part.
-fn parted(alloc: Global, logs: &[&[LogEntry]]) -> Result<Option<RerunError>, Fail> {
-    Ok(run_again(alloc, PUBLISH, logs)?.err())
+/// What is told of two threads and logs that part.
+fn publish_parted(alloc: Global, logs: &[&[LogEntry]]) -> Result<Option<RerunError>, Fail> {
+    Ok(run_again(alloc, PUBLISH, 100, logs)?.err())
 }
 
 const fn at(thread: u32, place: u32) -> Option<RerunError> {
@@ -97,14 +125,27 @@ const fn at(thread: u32, place: u32) -> Option<RerunError> {
 
 #[test]
 fn a_log_that_parts_from_its_thread_is_named(rt: HostRuntime) -> Result<(), Fail> {
-    let another_kind = parted(rt.alloc(), &[&[write(1)], &[write(1)]])?;
+    let another_kind = publish_parted(rt.alloc(), &[&[write(1)], &[write(1)]])?;
     assert_eq!(rt; another_kind, at(0, 0));
-    let one_left = parted(rt.alloc(), &[&[read(0, 0), read(0, 0)], &[write(1)]])?;
+    let one_left = publish_parted(rt.alloc(), &[&[read(0, 0), read(0, 0)], &[write(1)]])?;
     assert_eq!(rt; one_left, at(0, 1));
-    let log_more = parted(rt.alloc(), &[&[read(0, 1)], &[write(1)], &[]])?;
+    // The lesser of two threads is named, though it parts at a later place.
+    let both = publish_parted(rt.alloc(), &[&[read(0, 0), read(0, 0)], &[read(0, 0)]])?;
+    assert_eq!(rt; both, at(0, 1));
+    let log_more = publish_parted(rt.alloc(), &[&[read(0, 1)], &[write(1)], &[]])?;
     assert_eq!(rt; log_more, at(2, 0));
-    let log_less = parted(rt.alloc(), &[&[read(0, 1)]])?;
+    let log_less = publish_parted(rt.alloc(), &[&[read(0, 1)]])?;
     assert_eq!(rt; log_less, at(1, 0));
+    let rows: [(u32, &[LogEntry]); 2] = [
+        // The exit in between uses no entry.
+        (100, &[enter(1), write(9)]),
+        // The fuel is used up by the first entry.
+        (1, &[enter(1), enter(2)]),
+    ];
+    for (fuel, log) in rows {
+        let parted = run_again(rt.alloc(), TRAPPING, fuel, &[log])?.err();
+        assert_eq!(rt; parted, at(0, 1), "{log:?}");
+    }
     Ok(())
 }
 
@@ -120,13 +161,14 @@ fn record_and_run_again(alloc: Global, text: &[u8], order: &[u8]) -> Result<Reru
 
 #[test]
 fn recorded_threads_run_again(rt: HostRuntime) -> Result<(), Fail> {
-    let rows: [(&[u8], &[u8], &[u8], End); 4] = [
-        (WRITING, &[0, 0, 0, 0, 0, 0, 0, 0], b"4\n", End::Halted),
-        (WRITING, &[0], b"", End::Stopped { pc: 2 }),
-        (WRITING, &[], b"", End::Stopped { pc: 1 }),
+    let rows: [(&[u8], &[u8], u32, &[u8], End); 4] = [
+        (WRITING, &[0, 0, 0, 0, 0, 0, 0, 0], 2, b"4\n", End::Halted),
+        (WRITING, &[0], 1, b"", End::Stopped { pc: 2 }),
+        (WRITING, &[], 0, b"", End::Stopped { pc: 1 }),
         (
             TRAPPING,
             &[0, 0, 0, 0, 0],
+            3,
             b"",
             End::Trapped {
                 trap: Trap::DivZero,
@@ -134,9 +176,9 @@ fn recorded_threads_run_again(rt: HostRuntime) -> Result<(), Fail> {
             },
         ),
     ];
-    for (text, order, output, end) in rows {
+    for (text, order, events, output, end) in rows {
         let again = record_and_run_again(rt.alloc(), text, order)?;
-        assert!(rt; is_one(&again, output, end));
+        assert!(rt; is_one(&again, events, output, end), "{order:?}");
     }
     let reader = record_and_run_again(rt.alloc(), PUBLISH, &[1, 1, 1, 1, 0, 0, 1, 0, 1])?;
     let [printed, _] = reader.outputs.as_slice() else {

@@ -13,10 +13,10 @@ const HALTING: [u8; 34] =
     *b"STRIDE1\n\x00\x01\x86\xa0\x00\x00\x00\x0cthread\nhalt\n\x00\x01\x00\x00\x00\x00";
 
 /// One thread that wrote 4 into a variable and read it.
-const WRITING: [u8; 88] =
+pub(crate) const WRITING: [u8; 88] =
     *b"STRIDE1\n\x00\x01\x86\xa0\x00\x00\x00\x30var x 0\nthread\npush 4\nwrite x\nread x\nprint\nhalt\n\x00\x01\x00\x00\x00\x02\x02\x00\x00\x00\x01\x01\x00\x00\x00\x00\x00\x00\x00\x04\x00\x00\x00\x01";
 
-/// Two threads behind a text that is no program: one entered a monitor, and the other read.
+/// Three threads behind a text that is no program: the first entered a monitor, the second logged nothing, the third read.
 const MEETING: [u8; 52] =
     *b"STRIDE1\n\x00\x0f\x42\x40\x00\x00\x00\x04\x00ha?\x00\x03\x00\x00\x00\x01\x03\x00\x00\x01\x00\x00\x00\x00\x00\x00\x00\x00\x01\x01\xff\xff\xff\xff\xff\xff\xff\xff\x00\x00\x00\x00";
 
@@ -88,6 +88,7 @@ fn show_names_the_first_wrong_byte(rt: HostRuntime) -> Result<(), Fail> {
     let rows = [
         refused(&longer, FormatKind::Long, 34),
         refused(&magic, FormatKind::BadMagic, 6),
+        refused(b"SX", FormatKind::BadMagic, 1),
         refused(&fuel, FormatKind::BadCount, 8),
         refused(&threads, FormatKind::BadCount, 28),
         refused(&tag, FormatKind::BadTag, 70),
