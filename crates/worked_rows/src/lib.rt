@@ -1,9 +1,9 @@
 //! Tests that cross crates, and nothing else. Nothing stands on this crate.
 //!
 //! Rows of whole commands over devices in memory, worked by hand (`follow_rows`, `check_rows`, `sim_rows`, `show_rows`),
-//! of threads that are run again (`rerun_rows`), of recordings that are bundled (`bundle_rows`), and two plain, slow programs
-//! that are written from the language's description: `plain_reader` judges texts and `plain_machine` plays orders, and what
-//! they tell is compared with what the program tells (`reading_rows`, `playing_rows`, `drawn_rows`).
+//! of threads that are run again (`rerun_rows`), of recordings that are bundled (`bundle_rows`), and two plain, slow
+//! programs that are written from the language's description: `plain_reader` judges texts and `plain_machine` plays orders,
+//! and what they tell is compared with what the program tells (`reading_rows`, `playing_rows`, `drawn_rows`).
 #![tactic(auto)]
 
 #[cfg(test)]
