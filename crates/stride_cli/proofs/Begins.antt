@@ -1,5 +1,5 @@
 -- One more player starts.
-use Rattle.std.proofs.Common.{◌≡◌, ℕ, zero, suc, ◌+◌, ◌∙◌, inl, inr, List, [], ◌∷◌, ◌++◌, length, map, refl, sym, ap, subst, arith, add-one, get_or, Option, None, append_assoc, length-append}
+use Rattle.std.proofs.Common.{◌≡◌, ℕ, zero, suc, ◌+◌, ◌∙◌, inl, inr, List, [], ◌∷◌, ◌++◌, length, map, refl, sym, ap, subst, arith, get_or, Option, None, append_assoc, length-append}
 use Rattle.std.specs.List.{flat_map, range_with_len}
 use Rattle.std.proofs.lemmas.Bool.{cases_lt}
 use Rattle.std.proofs.lemmas.Grind.{flat_map-append}
@@ -10,18 +10,9 @@ use Rattle.stride_isa.specs.Listing.{Listing}
 use Rattle.sc_machine.specs.ThreadStep.{start_thread, settled}
 use Rattle.sc_machine.specs.Schedule.{settled_lines}
 use Rattle.sc_machine.specs.Transcript.{spelled, transcript_bytes}
+use Rattle.interleavings.proofs.Going.{range_more}
 use Rattle.stride_cli.specs.declared.player.Player.{Player}
 use Rattle.stride_cli.specs.Playing.{ArePlayers, IsPlayer, thread_of}
-
-range_suc : (from n : ℕ) → range_with_len from (suc n) ≡ range_with_len from n ++ (from + n) ∷ []
-range_suc from zero = let same : from ≡ from + 0 = omega arith in ap (λ k. k ∷ []) same
-range_suc from (suc n) =
-    let same : from + 1 + n ≡ from + suc n = omega arith in
-    ap (λ ks. from ∷ ks) (range_suc (from + 1) n ∙ ap (λ k. range_with_len (from + 1) n ++ k ∷ []) same)
-
--- the first numbers and one more
-range_more : (n : ℕ) → range_with_len 0 (n + 1) ≡ range_with_len 0 n ++ n ∷ []
-range_more n = let same : 0 + n ≡ n = omega arith in rw add-one (range_suc 0 n ∙ ap (λ k. range_with_len 0 n ++ k ∷ []) same)
 
 pub players_more : (p : Listing) (fuel n : ℕ) (players : List Player) (player : Player) → ArePlayers p fuel n players → IsPlayer p fuel n player → thread_of player ≡ settled p fuel n start_thread → ArePlayers p fuel (n + 1) (players ++ player ∷ [])
 players_more p fuel n players player are is settles = record {
