@@ -1,4 +1,4 @@
--- Atomic steps: what each of the twelve kinds does to the one word that it touches and to the thread that makes it.
+-- Atomic steps: what each of the eleven kinds does to the one word that it touches and to the thread that makes it.
 -- Threads, cells and monitors are of any number here, and no program is named.
 use Rattle.std.specs.Prelude.{◌≡◌, ℕ, ◌+◌, ◌*◌, ◌/◌, ◌%◌, ◌==◌, Bool, true, false, if◌then◌else◌, not, List, [], ◌∷◌, ◌++◌, filter, Option, Some, None, IsSome, IsNone}
 use prog.Atomic.{either}
@@ -6,31 +6,30 @@ use Rattle.interleavings.specs.declared.acts.Acts.{Acts}
 use Rattle.interleavings.specs.declared.acts.HeldTurn.{HeldTurn}
 use Rattle.interleavings.specs.declared.acts.OddLooks.{OddLooks}
 use Rattle.interleavings.specs.declared.acts.Phase.{Phase}
-use Rattle.interleavings.specs.declared.acts.Phase.TheVariants.{Idle, Loaded, InTurn, Numbered, Marked, Stored, Completed, Looked}
+use Rattle.interleavings.specs.declared.acts.Phase.TheVariants.{Idle, Loaded, Numbered, Marked, Fetched, Stored, Looked}
+use Rattle.interleavings.specs.declared.acts.SeenNumber.{SeenNumber}
 use Rattle.interleavings.specs.declared.acts.Tally.{Tally}
 use Rattle.interleavings.specs.declared.event.Event.{Event}
 use Rattle.interleavings.specs.declared.event.Event.TheVariants as events
 use Rattle.interleavings.specs.declared.kind.Kind.{Kind}
 use Rattle.interleavings.specs.declared.kind.Kind.TheVariants as by
 
--- the shared words: how many names were drawn; of each cell its value, its number and its turn; of each monitor its word
+-- the shared words: how many names were drawn; of each cell its value and its number; of each monitor its word
 pub data SharedWord : Type 0 where
   Drawn : SharedWord
   Value : ℕ → SharedWord
   Number : ℕ → SharedWord
-  Turn : ℕ → SharedWord
   Monitor : ℕ → SharedWord
 
 -- the word that a step touches, by the cell or the monitor
 abbrev pub word_of : Kind → ℕ → SharedWord
 word_of by.ValueLoad at = Value at
 word_of by.NumberLoad at = Number at
-word_of by.TakeTurn at = Turn at
-word_of by.NumberInTurn at = Number at
-word_of by.Mark at = Number at
+word_of by.SeeNumber at = Number at
+word_of by.Claim at = Number at
+word_of by.Fetch at = Value at
 word_of by.Put at = Value at
 word_of by.Complete at = Number at
-word_of by.GiveTurn at = Turn at
 word_of by.Look at = Monitor at
 word_of by.Enter at = Monitor at
 word_of by.Leave at = Monitor at
@@ -40,12 +39,12 @@ word_of by.Draw at = Drawn
 abbrev pub Begins : Kind → ℕ → Phase → Type 0
 Begins by.ValueLoad at Idle = Unit {0}
 Begins by.NumberLoad at (Loaded cell value) = at ≡ cell
-Begins by.TakeTurn at Idle = Unit {0}
-Begins by.NumberInTurn at (InTurn cell) = at ≡ cell
-Begins by.Mark at (Numbered cell n) = at ≡ cell
+Begins by.SeeNumber at Idle = Unit {0}
+Begins by.Claim at (Numbered cell n) = at ≡ cell
+Begins by.Fetch at (Marked cell n) = at ≡ cell
 Begins by.Put at (Marked cell n) = at ≡ cell
-Begins by.Complete at (Stored cell n value) = at ≡ cell
-Begins by.GiveTurn at (Completed cell n value) = at ≡ cell
+Begins by.Put at (Fetched cell n old) = at ≡ cell
+Begins by.Complete at (Stored cell n old value) = at ≡ cell
 Begins by.Look at Idle = Unit {0}
 Begins by.Enter at (Looked monitor turn) = at ≡ monitor
 Begins by.Leave at Idle = Unit {0}
@@ -57,23 +56,32 @@ abbrev pub held_turn : ℕ → List HeldTurn → Option ℕ
 held_turn monitor [] = None
 held_turn monitor (h ∷ held) = if h.mon == monitor then Some h.turn else held_turn monitor held
 
--- a draw is made without a name, every other step with one; only a monitor that is held is left
+-- a draw is made without a name, and the first step of a read, a write, an update or an entry with one; only a monitor that
+-- is held is left
 abbrev pub Suits : Kind → ℕ → Acts → Type 0
+Suits by.ValueLoad at acts = IsSome acts.name
+Suits by.NumberLoad at acts = Unit {0}
+Suits by.SeeNumber at acts = IsSome acts.name
+Suits by.Claim at acts = Unit {0}
+Suits by.Fetch at acts = Unit {0}
+Suits by.Put at acts = Unit {0}
+Suits by.Complete at acts = Unit {0}
+Suits by.Look at acts = IsSome acts.name
+Suits by.Enter at acts = Unit {0}
+Suits by.Leave at acts = IsSome (held_turn at acts.held)
 Suits by.Draw at acts = IsNone acts.name
-Suits by.Leave at acts = IsSome acts.name × IsSome (held_turn at acts.held)
-Suits kind at acts = IsSome acts.name
 
 -- the step may be made
 pub record May (kind : Kind) (at : ℕ) (acts : Acts) : Type 0 where
   pub begins : Begins kind at acts.phase
   pub suits : Suits kind at acts
 
--- half of the number that a writer found
+-- half of the number that a writer saw
 abbrev pub number_in : Phase → ℕ
 number_in (Numbered cell n) = n
 number_in (Marked cell n) = n
-number_in (Stored cell n value) = n
-number_in (Completed cell n value) = n
+number_in (Fetched cell n old) = n
+number_in (Stored cell n old value) = n
 number_in phase = 0
 
 -- how many turns a monitor had when it was seen free
@@ -89,16 +97,16 @@ turn_or_zero None = 0
 abbrev pub is_even : ℕ → Bool
 is_even word = word % 2 == 0
 
--- the word after the step, by what it stores and the word that it met
+-- the word after the step, by what it stores and the word that it met; a claim and an entry exchange the word that was seen
+-- for the next one
 abbrev pub word_after : Kind → ℕ → ℕ → Acts → ℕ → ℕ
 word_after by.ValueLoad at value acts met = met
 word_after by.NumberLoad at value acts met = met
-word_after by.TakeTurn at value acts met = either (met == 0) 1 met
-word_after by.NumberInTurn at value acts met = met
-word_after by.Mark at value acts met = 2 * number_in acts.phase + 1
+word_after by.SeeNumber at value acts met = met
+word_after by.Claim at value acts met = either (met == 2 * number_in acts.phase) (2 * number_in acts.phase + 1) met
+word_after by.Fetch at value acts met = met
 word_after by.Put at value acts met = value
 word_after by.Complete at value acts met = 2 * number_in acts.phase + 2
-word_after by.GiveTurn at value acts met = 0
 word_after by.Look at value acts met = met
 word_after by.Enter at value acts met = either (met == 2 * turn_in acts.phase) (2 * turn_in acts.phase + 1) met
 word_after by.Leave at value acts met = 2 * turn_or_zero (held_turn at acts.held)
@@ -109,10 +117,11 @@ abbrev pub read_if : Bool → Phase → ℕ → Option Event
 read_if true (Loaded cell value) bound = Some (events.Read cell value bound)
 read_if even phase bound = None
 
--- the event of a write that gives its turn back
-abbrev pub written : Phase → Option Event
-written (Completed cell n value) = Some (events.Write cell value (n + 1))
-written phase = None
+-- the event of a writer that completes its number: an update where it had loaded the old value, and else a write
+abbrev pub completed : Phase → Option Event
+completed (Stored cell n None value) = Some (events.Write cell value (n + 1))
+completed (Stored cell n (Some old) value) = Some (events.Update cell old value (n + 1))
+completed phase = None
 
 -- the event of an entry, where the monitor was still as it was seen
 abbrev pub entered_if : Bool → ℕ → ℕ → Option Event
@@ -121,11 +130,17 @@ entered_if false monitor turn = None
 
 -- the event that the step finishes, if it finishes one
 abbrev pub finished_by : Kind → ℕ → Acts → ℕ → Option Event
+finished_by by.ValueLoad at acts met = None
 finished_by by.NumberLoad at acts met = read_if (is_even met) acts.phase (met / 2)
-finished_by by.GiveTurn at acts met = written acts.phase
+finished_by by.SeeNumber at acts met = None
+finished_by by.Claim at acts met = None
+finished_by by.Fetch at acts met = None
+finished_by by.Put at acts met = None
+finished_by by.Complete at acts met = completed acts.phase
+finished_by by.Look at acts met = None
 finished_by by.Enter at acts met = entered_if (met == 2 * turn_in acts.phase) at (turn_in acts.phase + 1)
 finished_by by.Leave at acts met = Some (events.Exit at (turn_or_zero (held_turn at acts.held)))
-finished_by kind at acts met = None
+finished_by by.Draw at acts met = None
 
 -- the events with one more at their end, if there is one
 abbrev pub with_event : List Event → Option Event → List Event
@@ -137,35 +152,35 @@ abbrev pub phase_if : Bool → Phase → Phase → Phase
 phase_if true phase other = phase
 phase_if false phase other = other
 
--- the phase of a writer that has marked its cell
+-- the phase of a writer that has claimed
 abbrev pub marked : Phase → Phase
 marked (Numbered cell n) = Marked cell n
 marked phase = phase
 
+-- the phase of a writer that has claimed and then loaded the old value
+abbrev pub fetched : ℕ → Phase → Phase
+fetched old (Marked cell n) = Fetched cell n old
+fetched old phase = phase
+
 -- the phase of a writer that has stored this value
 abbrev pub stored : ℕ → Phase → Phase
-stored value (Marked cell n) = Stored cell n value
+stored value (Marked cell n) = Stored cell n None value
+stored value (Fetched cell n old) = Stored cell n (Some old) value
 stored value phase = phase
-
--- the phase of a writer that has completed its number
-abbrev pub completed : Phase → Phase
-completed (Stored cell n value) = Completed cell n value
-completed phase = phase
 
 -- the phase after the step
 abbrev pub phase_after : Kind → ℕ → ℕ → Phase → ℕ → Phase
 phase_after by.ValueLoad at value phase met = Loaded at met
 phase_after by.NumberLoad at value phase met = phase_if (is_even met) Idle phase
-phase_after by.TakeTurn at value phase met = phase_if (met == 0) (InTurn at) phase
-phase_after by.NumberInTurn at value phase met = Numbered at (met / 2)
-phase_after by.Mark at value phase met = marked phase
+phase_after by.SeeNumber at value phase met = phase_if (is_even met) (Numbered at (met / 2)) Idle
+phase_after by.Claim at value phase met = phase_if (met == 2 * number_in phase) (marked phase) Idle
+phase_after by.Fetch at value phase met = fetched met phase
 phase_after by.Put at value phase met = stored value phase
-phase_after by.Complete at value phase met = completed phase
-phase_after by.GiveTurn at value phase met = Idle
-phase_after by.Look at value phase met = phase_if (is_even met) (Looked at (met / 2)) phase
+phase_after by.Complete at value phase met = Idle
+phase_after by.Look at value phase met = phase_if (is_even met) (Looked at (met / 2)) Idle
 phase_after by.Enter at value phase met = Idle
-phase_after by.Leave at value phase met = phase
-phase_after by.Draw at value phase met = phase
+phase_after by.Leave at value phase met = Idle
+phase_after by.Draw at value phase met = Idle
 
 -- the name after the step
 abbrev pub name_after : Kind → Option ℕ → ℕ → Option ℕ
@@ -215,12 +230,17 @@ place_of kind at = Some at
 
 -- the word that a step loads or meets; a store tells its thread nothing, so it counts as 0
 abbrev pub word_told : Kind → ℕ → ℕ
-word_told by.Mark met = 0
+word_told by.ValueLoad met = met
+word_told by.NumberLoad met = met
+word_told by.SeeNumber met = met
+word_told by.Claim met = met
+word_told by.Fetch met = met
 word_told by.Put met = 0
 word_told by.Complete met = 0
-word_told by.GiveTurn met = 0
+word_told by.Look met = met
+word_told by.Enter met = met
 word_told by.Leave met = 0
-word_told kind met = met
+word_told by.Draw met = met
 
 -- the count of steps and the last of them, after the step
 abbrev pub tally_after : Kind → ℕ → Tally → ℕ → Tally
@@ -229,17 +249,13 @@ tally_after kind at tally met = record {
   last = Some (record { kind = kind; place = place_of kind at; word = word_told kind met });
 }
 
--- a number of a cell that a thread has seen
-pub record SeenNumber : Type 0 where
-  pub cell : ℕ
-  pub number : ℕ
-
 -- the numbers seen, with one more where the word was even
 abbrev pub seen_if : Bool → SeenNumber → List SeenNumber → List SeenNumber
 seen_if true s seen = s ∷ seen
 seen_if false s seen = seen
 
--- the numbers that the thread has seen after the step, the last of them first
+-- the numbers that the thread has seen after the step, the last of them first: those of its reads' even numbers and those of
+-- its own writes and updates
 abbrev pub seen_after : Kind → ℕ → Phase → List SeenNumber → ℕ → List SeenNumber
 seen_after by.NumberLoad at phase seen met = seen_if (is_even met) (record { cell = at; number = met / 2 }) seen
 seen_after by.Complete at phase seen met = record { cell = at; number = number_in phase + 1 } ∷ seen

@@ -4,7 +4,7 @@ use Rattle.interleavings.specs.declared.acts.Acts.{Acts}
 use Rattle.interleavings.specs.declared.acts.HeldTurn.{HeldTurn}
 use Rattle.interleavings.specs.declared.acts.OddLooks.{OddLooks}
 use Rattle.interleavings.specs.declared.acts.Phase.{Phase}
-use Rattle.interleavings.specs.AtomicStep.{SharedWord, Drawn, Value, Number, Turn, Monitor, number_in, turn_in}
+use Rattle.interleavings.specs.AtomicStep.{SharedWord, Drawn, Value, Number, Monitor, number_in, turn_in}
 use Rattle.interleavings.specs.History.{State}
 
 -- what a word holds after n steps: n names at most were drawn, and a number or a monitor's word is twice n and one at most
@@ -12,7 +12,6 @@ abbrev pub IsWordWithin : ℕ → SharedWord → ℕ → Type 0
 IsWordWithin n Drawn value = value ≤ n
 IsWordWithin n (Value cell) value = Unit {0}
 IsWordWithin n (Number cell) value = value ≤ 2 * n + 1
-IsWordWithin n (Turn cell) value = Unit {0}
 IsWordWithin n (Monitor monitor) value = value ≤ 2 * n + 1
 
 -- the number or the turn in a phase is n at most

@@ -2,9 +2,10 @@
 use Rattle.std.specs.Prelude.{ℕ, ◌==◌, Bool, true, false, if◌then◌else◌, List, [], ◌∷◌, max, slice_index, None}
 use Rattle.interleavings.specs.declared.acts.Acts.{Acts}
 use Rattle.interleavings.specs.declared.acts.Phase.TheVariants.{Idle}
+use Rattle.interleavings.specs.declared.acts.SeenNumber.{SeenNumber}
 use Rattle.interleavings.specs.declared.acts.Tally.{Tally}
 use Rattle.interleavings.specs.declared.kind.Kind.{Kind}
-use Rattle.interleavings.specs.AtomicStep.{SharedWord, Drawn, Value, Number, Turn, Monitor, SeenNumber, word_of, May, word_after, acts_after, tally_after, seen_after}
+use Rattle.interleavings.specs.AtomicStep.{SharedWord, Drawn, Value, Number, Monitor, word_of, May, word_after, acts_after, tally_after, seen_after}
 
 -- a thread while it is recorded: what it does, the count of its steps, and the numbers that it has seen
 pub record Person : Type 0 where
@@ -34,7 +35,6 @@ abbrev pub same_word : SharedWord → SharedWord → Bool
 same_word Drawn Drawn = true
 same_word (Value cell) (Value other) = cell == other
 same_word (Number cell) (Number other) = cell == other
-same_word (Turn cell) (Turn other) = cell == other
 same_word (Monitor monitor) (Monitor other) = monitor == other
 same_word word other = false
 

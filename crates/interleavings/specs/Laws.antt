@@ -3,8 +3,9 @@ use Rattle.std.specs.Prelude.{◌≡◌, ◌≤◌, ℕ, List, None, Ok, length}
 use Rattle.stride_isa.specs.Listing.{Listing}
 use Rattle.interleavings.specs.declared.event.LogEntry.{LogEntry}
 use Rattle.interleavings.specs.Events.{log_of}
-use Rattle.interleavings.specs.Following.{Followed, IsFollowed, follow}
-use Rattle.interleavings.specs.Recording.{Setting, driven, whole_run, IsHistoryOf, stranger}
+use Rattle.interleavings.specs.Following.{Followed, follow}
+use Rattle.interleavings.specs.Recording.{Setting, IsHistoryOf, IsFollowed}
+use Rattle.interleavings.specs.Driving.{driven, whole_run, stranger}
 
 -- the recording that an order of the program's threads gives is that of its run's steps, which are a history, and after
 -- which each thread is at rest

@@ -3,6 +3,8 @@ pub mod Bounded
 pub mod CoreShows
 pub mod DrivenSeen
 pub mod DriverShows
+pub mod Driving
+pub mod EventStep
 pub mod Events
 pub mod Following
 pub mod History

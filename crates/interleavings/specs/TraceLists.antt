@@ -4,7 +4,7 @@ use Rattle.std.specs.List.{AllByRecursion, slice_index_or}
 use Rattle.std.specs.Prelude.{slice_set}
 use Rattle.stride_isa.specs.Listing.{Listing, starts_of}
 use Rattle.interleavings.specs.declared.event.Event.{Event}
-use Rattle.interleavings.specs.declared.event.Event.TheVariants.{Read, Write, Enter, Exit}
+use Rattle.interleavings.specs.declared.event.Event.TheVariants.{Read, Write, Update, Enter, Exit}
 
 -- the events of each thread, the starting value of each cell, and how many monitors there are
 pub record TraceLists : Type 0 where
@@ -24,6 +24,7 @@ events_of traces thread = slice_index_or traces.events thread []
 abbrev pub IsInRange : TraceLists → Event → Type 0
 IsInRange traces (Read cell value bound) = cell < length traces.starts
 IsInRange traces (Write cell value number) = cell < length traces.starts
+IsInRange traces (Update cell old new number) = cell < length traces.starts
 IsInRange traces (Enter monitor turn) = monitor < traces.monitors
 IsInRange traces (Exit monitor turn) = monitor < traces.monitors
 
@@ -31,9 +32,11 @@ IsInRange traces (Exit monitor turn) = monitor < traces.monitors
 abbrev pub with_event_of : TraceLists → ℕ → Event → TraceLists
 with_event_of traces thread event = record traces { events = slice_set traces.events thread (events_of traces thread ++ event ∷ []) }
 
--- the traces are within the limits of a program and of its threads' fuel
+-- the traces are within the limits of a program and of its threads' fuel, and each event is of a cell or a monitor that is
+-- there
 pub record IsTraces (traces : TraceLists) : Type 0 where
   pub threads : length traces.events ≤ 16
   pub cells : length traces.starts ≤ 256
   pub monitors : traces.monitors ≤ 64
   pub counts : AllByRecursion (λ events. length events ≤ 1000000) traces.events
+  pub ranges : AllByRecursion (λ events. AllByRecursion (IsInRange traces) events) traces.events

@@ -11,16 +11,19 @@ pub enum Phase {
     Idle,
     /// Of a read: it has loaded this value of the cell.
     Loaded { cell: u32, value: u64 },
-    /// Of a write: it has the turn of the cell.
-    InTurn { cell: u32 },
-    /// Of a write: it has loaded the number, twice `n`.
+    /// Of a write or an update: it has seen the number even, twice `n`.
     Numbered { cell: u32, n: u32 },
-    /// Of a write: it has made the number odd.
+    /// Of a write or an update: it has claimed write `n + 1` by making the number odd.
     Marked { cell: u32, n: u32 },
-    /// Of a write: it has stored the value.
-    Stored { cell: u32, n: u32, value: u64 },
-    /// Of a write: it has made the number even again.
-    Completed { cell: u32, n: u32, value: u64 },
+    /// Of an update: it has claimed, and has loaded the old value.
+    Fetched { cell: u32, n: u32, old: u64 },
+    /// Of a write or an update: it has stored the value; an update keeps the old one.
+    Stored {
+        cell: u32,
+        n: u32,
+        old: Option<u64>,
+        value: u64,
+    },
     /// Of an entry: it has seen the monitor free after so many turns.
     Looked { mon: u32, turn: u32 },
 }
@@ -30,6 +33,14 @@ pub enum Phase {
 pub struct HeldTurn {
     pub mon: u32,
     pub turn: u32,
+}
+
+/// A number of a cell that a thread has seen: half of an even number that it loaded after the value, or the number of a
+/// write or update of its own.
+#[derive(Clone, Copy, Debug, PartialEq, Eq)]
+pub struct SeenNumber {
+    pub cell: u32,
+    pub number: u32,
 }
 
 /// How often in a row a thread looked at a monitor that was held.

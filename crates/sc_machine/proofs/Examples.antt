@@ -3,7 +3,9 @@ use Rattle.std.proofs.Common.{◌≡◌, ℕ, List, [], ◌∷◌, true, false, 
 use Rattle.std.specs.Fmt.{digits}
 use Rattle.std.specs.Option.{option_map}
 use Rattle.std.specs.Prelude.{codes}
+use Rattle.stride_isa.specs.Changes.{applied}
 use Rattle.stride_isa.specs.Listing.{Listing}
+use Rattle.stride_isa.specs.declared.change.Change.TheVariants as changes
 use Rattle.stride_isa.specs.declared.decl.Shape.TheVariants.{Single, Array}
 use Rattle.stride_isa.specs.declared.op.Op.{Op}
 use Rattle.stride_isa.specs.declared.op.Op.TheVariants as ops
@@ -11,7 +13,7 @@ use Rattle.sc_machine.specs.declared.end.End.{End}
 use Rattle.sc_machine.specs.declared.end.End.TheVariants.{Halted, Trapped, OutOfSteps, Stopped}
 use Rattle.sc_machine.specs.declared.trap.Trap.TheVariants.{DivZero, Range, Again, NotHeld, HeldAtHalt}
 use Rattle.sc_machine.specs.declared.stop.Stop.TheVariants as stops
-use Rattle.sc_machine.specs.ThreadStep.{Row, Goes, Ends, Stands, row, local_steps, settled}
+use Rattle.sc_machine.specs.ThreadStep.{Row, Goes, Ends, Stands, row, local_steps, settled, done_stack}
 use Rattle.sc_machine.specs.Machine.{sc_step, sc_run}
 use Rattle.sc_machine.specs.Schedule.{printed_in, settled_lines, settle, turn, started, ready, locals_of, expand_starts, expand, whole, run_of, replayed, refused_place, ends}
 use Rattle.sc_machine.specs.Transcript.{transcript_bytes}
@@ -79,6 +81,14 @@ branches = (refl, refl, refl, refl, refl)
 
 accesses : (row_of (ops.Read 0) [] ≡ Stands (stops.Read 0)) × (row_of (ops.Write 0) (4 ∷ []) ≡ Stands (stops.Write 0 4)) × (row_of (ops.ReadAt 1) (1 ∷ []) ≡ Stands (stops.Read 2)) × (row_of (ops.ReadAt 1) (2 ∷ []) ≡ Ends (Trapped Range 5)) × (row_of (ops.WriteAt 1) (0 ∷ 4 ∷ []) ≡ Stands (stops.Write 1 4)) × (row_of (ops.WriteAt 1) (2 ∷ 4 ∷ []) ≡ Ends (Trapped Range 5))
 accesses = (refl, refl, refl, refl, refl, refl)
+
+-- an update stands with its change, and an answer pushes the old value
+updates : (row_of (ops.Xchg 0) (4 ∷ []) ≡ Stands (stops.Update 0 (changes.Store 4))) × (row_of (ops.AddTo 0) (4 ∷ []) ≡ Stands (stops.Update 0 (changes.Plus 4))) × (row_of (ops.Cas 0) (4 ∷ 3 ∷ []) ≡ Stands (stops.Update 0 (changes.IfEqual 3 4))) × (done_stack (ops.Xchg 0) (4 ∷ 1 ∷ []) 9 ≡ 9 ∷ 1 ∷ []) × (done_stack (ops.AddTo 0) (4 ∷ 1 ∷ []) 9 ≡ 9 ∷ 1 ∷ []) × (done_stack (ops.Cas 0) (4 ∷ 3 ∷ 1 ∷ []) 9 ≡ 9 ∷ 1 ∷ [])
+updates = (refl, refl, refl, refl, refl, refl)
+
+-- what an update leaves in its cell
+changes_store : (applied (changes.Store 4) 9 ≡ 4) × (applied (changes.Plus 4) 9 ≡ 13) × (applied (changes.Plus 2) 18446744073709551615 ≡ 1) × (applied (changes.IfEqual 9 4) 9 ≡ 4) × (applied (changes.IfEqual 8 4) 9 ≡ 9)
+changes_store = (refl, refl, refl, refl, refl)
 
 monitors : (row_of (ops.Enter 0) [] ≡ Stands (stops.Enter 0)) × (row_of (ops.Enter 1) [] ≡ Ends (Trapped Again 5)) × (row_of (ops.Exit 1) [] ≡ Stands (stops.Exit 1)) × (row_of (ops.Exit 0) [] ≡ Ends (Trapped NotHeld 5)) × (row_of ops.Halt [] ≡ Ends (Trapped HeldAtHalt 5))
 monitors = (refl, refl, refl, refl, refl)

@@ -11,7 +11,7 @@ use Rattle.sc_machine.specs.declared.end.End.{End}
 use Rattle.sc_machine.specs.declared.end.End.TheVariants.{OutOfSteps}
 use Rattle.sc_machine.specs.declared.instruction.Next.TheVariants as nexts
 use Rattle.sc_machine.specs.declared.stop.Stop.{Stop}
-use Rattle.sc_machine.specs.declared.stop.Stop.TheVariants.{Read, Write, Enter, Exit, Ended}
+use Rattle.sc_machine.specs.declared.stop.Stop.TheVariants.{Read, Write, Update, Enter, Exit, Ended}
 use Rattle.sc_machine.specs.ThreadStep.{Row, Goes, Ends, Stands, now_unless, row, stop_in, done_stack, out_of_steps}
 use Rattle.sc_machine.specs.Made.{Made}
 use Rattle.sc_machine.specs.ThreadRun.{Run, stop_at, IsShared, TakesWord}
@@ -103,6 +103,7 @@ shared_from_takes (Read cell) (Some word) takes = tt
 shared_from_takes (Read cell) None takes = tt
 shared_from_takes (Write cell value) (Some word) takes = tt
 shared_from_takes (Write cell value) None takes = tt
+shared_from_takes (Update cell change) word takes = tt
 shared_from_takes (Enter monitor) word takes = tt
 shared_from_takes (Exit monitor) word takes = tt
 shared_from_takes (Ended end) word takes = takes

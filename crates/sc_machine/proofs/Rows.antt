@@ -60,6 +60,13 @@ row_leads p (ops.ReadAt decl) pc (index ∷ below) locals held next enough goes 
 row_leads p (ops.WriteAt decl) pc [] locals held next enough goes = absurd (omega arith)
 row_leads p (ops.WriteAt decl) pc (index ∷ []) locals held next enough goes = absurd (omega arith)
 row_leads p (ops.WriteAt decl) pc (index ∷ word ∷ below) locals held next enough goes = absurd (on_member_stays (member_cell p decl index) pc _ next goes)
+row_leads p (ops.Xchg decl) pc [] locals held next enough goes = absurd (omega arith)
+row_leads p (ops.Xchg decl) pc (word ∷ below) locals held next enough goes = cc
+row_leads p (ops.AddTo decl) pc [] locals held next enough goes = absurd (omega arith)
+row_leads p (ops.AddTo decl) pc (word ∷ below) locals held next enough goes = cc
+row_leads p (ops.Cas decl) pc [] locals held next enough goes = absurd (omega arith)
+row_leads p (ops.Cas decl) pc (new ∷ []) locals held next enough goes = absurd (omega arith)
+row_leads p (ops.Cas decl) pc (new ∷ expected ∷ below) locals held next enough goes = cc
 row_leads p (ops.Enter monitor) pc stack locals held next enough goes = absurd (cond_both (holds held monitor) _ _ (StaysFrom next) (λ e goes. cc) (λ e goes. cc) goes)
 row_leads p (ops.Exit monitor) pc stack locals held next enough goes = absurd (cond_both (holds held monitor) _ _ (StaysFrom next) (λ e goes. cc) (λ e goes. cc) goes)
 row_leads p ops.Halt pc stack locals held next enough goes = cc
@@ -77,6 +84,13 @@ shared_leads p (ops.ReadAt decl) pc (index ∷ below) locals held word enough sh
 shared_leads p (ops.WriteAt decl) pc [] locals held word enough shared = absurd (omega arith)
 shared_leads p (ops.WriteAt decl) pc (index ∷ []) locals held word enough shared = absurd (omega arith)
 shared_leads p (ops.WriteAt decl) pc (index ∷ value ∷ below) locals held word enough shared = (refl, omega arith)
+shared_leads p (ops.Xchg decl) pc [] locals held word enough shared = absurd (omega arith)
+shared_leads p (ops.Xchg decl) pc (top ∷ below) locals held word enough shared = (refl, omega arith)
+shared_leads p (ops.AddTo decl) pc [] locals held word enough shared = absurd (omega arith)
+shared_leads p (ops.AddTo decl) pc (top ∷ below) locals held word enough shared = (refl, omega arith)
+shared_leads p (ops.Cas decl) pc [] locals held word enough shared = absurd (omega arith)
+shared_leads p (ops.Cas decl) pc (new ∷ []) locals held word enough shared = absurd (omega arith)
+shared_leads p (ops.Cas decl) pc (new ∷ expected ∷ below) locals held word enough shared = (refl, omega arith)
 shared_leads p (ops.Enter monitor) pc stack locals held word enough shared = (refl, omega arith)
 shared_leads p (ops.Exit monitor) pc stack locals held word enough shared = (refl, omega arith)
 shared_leads p ops.Div pc [] locals held word enough shared = absurd (omega arith)

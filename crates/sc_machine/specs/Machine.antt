@@ -1,9 +1,10 @@
 -- The sequentially consistent machine (Lamport 1979): all threads over one memory, one instruction of one thread at a
 -- time.
 use Rattle.std.specs.Prelude.{ℕ, ◌==◌, ◌&&◌, Bool, true, false, if◌then◌else◌, List, [], ◌∷◌, ◌++◌, length, map, Option, Some, None, nat_lt, slice_index_or, slice_set}
+use Rattle.stride_isa.specs.Changes.{applied}
 use Rattle.stride_isa.specs.Listing.{Listing, start_of}
 use Rattle.sc_machine.specs.declared.stop.Stop.{Stop}
-use Rattle.sc_machine.specs.declared.stop.Stop.TheVariants.{Read, Write, Enter, Exit, Ended}
+use Rattle.sc_machine.specs.declared.stop.Stop.TheVariants.{Read, Write, Update, Enter, Exit, Ended}
 use Rattle.sc_machine.specs.ThreadStep.{Thread, start_thread, Row, Goes, Ends, Stands, printed_by, now, moved, answered}
 
 -- a printed line, with the number of the thread that printed it: the digits of a word and a line feed
@@ -41,6 +42,7 @@ is_free_for t (Some holder) = holder == t
 abbrev pub may_pass : ℕ → Stop → (ℕ → Option ℕ) → Bool
 may_pass t (Read cell) holders = true
 may_pass t (Write cell value) holders = true
+may_pass t (Update cell change) holders = true
 may_pass t (Enter monitor) holders = is_free_for t (holders monitor)
 may_pass t (Exit monitor) holders = true
 may_pass t (Ended end) holders = false
@@ -59,6 +61,7 @@ can p t m = nat_lt t (length m.threads) && may_make t (now p t (thread_at m t)) 
 abbrev pub word_read : Stop → (ℕ → ℕ) → ℕ
 word_read (Read cell) cells = cells cell
 word_read (Write cell value) cells = 0
+word_read (Update cell change) cells = cells cell
 word_read (Enter monitor) cells = 0
 word_read (Exit monitor) cells = 0
 word_read (Ended end) cells = 0
@@ -67,6 +70,7 @@ word_read (Ended end) cells = 0
 abbrev pub cells_after : Stop → (ℕ → ℕ) → ℕ → ℕ
 cells_after (Read cell) cells = cells
 cells_after (Write cell value) cells = put cells cell value
+cells_after (Update cell change) cells = put cells cell (applied change (cells cell))
 cells_after (Enter monitor) cells = cells
 cells_after (Exit monitor) cells = cells
 cells_after (Ended end) cells = cells
@@ -75,6 +79,7 @@ cells_after (Ended end) cells = cells
 abbrev pub holders_after : ℕ → Stop → (ℕ → Option ℕ) → ℕ → Option ℕ
 holders_after t (Read cell) holders = holders
 holders_after t (Write cell value) holders = holders
+holders_after t (Update cell change) holders = holders
 holders_after t (Enter monitor) holders = put holders monitor (Some t)
 holders_after t (Exit monitor) holders = put holders monitor None
 holders_after t (Ended end) holders = holders

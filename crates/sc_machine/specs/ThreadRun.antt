@@ -3,7 +3,7 @@ use Rattle.std.specs.Prelude.{◌≡◌, ℕ, ◌<◌, length, List, [], Bool, O
 use Rattle.stride_isa.specs.Listing.{Listing, cell_count}
 use Rattle.sc_machine.specs.declared.end.End.{End}
 use Rattle.sc_machine.specs.declared.stop.Stop.{Stop}
-use Rattle.sc_machine.specs.declared.stop.Stop.TheVariants.{Read, Write, Enter, Exit, Ended}
+use Rattle.sc_machine.specs.declared.stop.Stop.TheVariants.{Read, Write, Update, Enter, Exit, Ended}
 use Rattle.sc_machine.specs.ThreadStep.{Thread, start_thread, Stands, now, stop_of, answered}
 
 -- a run of one thread of a program, with its fuel
@@ -59,6 +59,7 @@ IsAnswered old new word =
 abbrev pub IsShared : Stop → Type 0
 IsShared (Read cell) = Unit {0}
 IsShared (Write cell value) = Unit {0}
+IsShared (Update cell change) = Unit {0}
 IsShared (Enter monitor) = Unit {0}
 IsShared (Exit monitor) = Unit {0}
 IsShared (Ended end) = ⊥
@@ -69,6 +70,8 @@ TakesWord (Read cell) (Some word) = Unit {0}
 TakesWord (Read cell) None = ⊥
 TakesWord (Write cell value) (Some word) = ⊥
 TakesWord (Write cell value) None = Unit {0}
+TakesWord (Update cell change) (Some word) = Unit {0}
+TakesWord (Update cell change) None = ⊥
 TakesWord (Enter monitor) (Some word) = ⊥
 TakesWord (Enter monitor) None = Unit {0}
 TakesWord (Exit monitor) (Some word) = ⊥
@@ -87,6 +90,7 @@ IsMonitor p monitor = (monitor < length p.monitors) × (monitor < 64)
 abbrev pub NamesCell : Listing → Stop → Type 0
 NamesCell p (Read cell) = IsCell p cell
 NamesCell p (Write cell value) = IsCell p cell
+NamesCell p (Update cell change) = IsCell p cell
 NamesCell p (Enter monitor) = IsMonitor p monitor
 NamesCell p (Exit monitor) = IsMonitor p monitor
 NamesCell p (Ended end) = Unit {0}

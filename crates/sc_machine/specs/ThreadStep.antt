@@ -3,6 +3,7 @@
 use Rattle.std.specs.Prelude.{ℕ, zero, suc, ◌+◌, ◌-◌, ◌*◌, ◌/◌, ◌%◌, ◌^◌, ◌==◌, Bool, true, false, if◌then◌else◌, List, [], ◌∷◌, ◌++◌, replicate, Option, Some, None, nat_lt, unwrap_or, slice_index, slice_index_or, slice_set, bit_and, bit_or, bit_xor, decimal}
 use Rattle.std.specs.List.{list_any}
 use Rattle.stride_isa.specs.Listing.{Listing, op_at, decl_at, cells_of, first_cell}
+use Rattle.stride_isa.specs.declared.change.Change.TheVariants.{Store, Plus, IfEqual}
 use Rattle.stride_isa.specs.declared.op.Op.{Op}
 use Rattle.stride_isa.specs.declared.op.Op.TheVariants as ops
 use Rattle.sc_machine.specs.declared.trap.Trap.{Trap}
@@ -10,7 +11,7 @@ use Rattle.sc_machine.specs.declared.trap.Trap.TheVariants.{DivZero, Range, Agai
 use Rattle.sc_machine.specs.declared.end.End.{End}
 use Rattle.sc_machine.specs.declared.end.End.TheVariants.{Halted, Trapped, OutOfSteps, Stopped}
 use Rattle.sc_machine.specs.declared.stop.Stop.{Stop}
-use Rattle.sc_machine.specs.declared.stop.Stop.TheVariants.{Read, Write, Enter, Exit, Ended}
+use Rattle.sc_machine.specs.declared.stop.Stop.TheVariants.{Read, Write, Update, Enter, Exit, Ended}
 
 -- a thread: the position of its next instruction, its operand stack with the topmost word first, its locals, of each
 -- monitor whether the thread holds it, the bytes that it printed, how many instructions it made, and its end or none
@@ -114,6 +115,9 @@ row p (ops.Read decl) pc stack locals held = Stands (Read (first_cell p.decls de
 row p (ops.Write decl) pc stack locals held = on_top stack (λ word below. Stands (Write (first_cell p.decls decl) word))
 row p (ops.ReadAt decl) pc stack locals held = on_top stack (λ index below. on_member (member_cell p decl index) pc (λ cell. Read cell))
 row p (ops.WriteAt decl) pc stack locals held = on_two stack (λ word index below. on_member (member_cell p decl index) pc (λ cell. Write cell word))
+row p (ops.Xchg decl) pc stack locals held = on_top stack (λ word below. Stands (Update (first_cell p.decls decl) (Store word)))
+row p (ops.AddTo decl) pc stack locals held = on_top stack (λ word below. Stands (Update (first_cell p.decls decl) (Plus word)))
+row p (ops.Cas decl) pc stack locals held = on_two stack (λ expected new below. Stands (Update (first_cell p.decls decl) (IfEqual expected new)))
 row p (ops.Enter monitor) pc stack locals held = if holds held monitor then traps Again pc else Stands (Enter monitor)
 row p (ops.Exit monitor) pc stack locals held = if holds held monitor then Stands (Exit monitor) else traps NotHeld pc
 row p ops.Print pc stack locals held = on_top stack (λ word below. Goes (pc + 1) below locals (decimal word ++ 10 ∷ []))
@@ -162,12 +166,15 @@ stop_in (Stands stop) = stop
 abbrev pub stop_of : Listing → ℕ → Thread → Stop
 stop_of p t s = stop_in (now p t s)
 
--- the stack after a shared instruction, given the word that it reads
+-- the stack after a shared instruction, given the word that it reads; an update pushes the old value
 abbrev pub done_stack : Op → List ℕ → ℕ → List ℕ
 done_stack (ops.Read decl) stack word = word ∷ stack
 done_stack (ops.Write decl) stack word = on_top stack (λ top below. below)
 done_stack (ops.ReadAt decl) stack word = on_top stack (λ index below. word ∷ below)
 done_stack (ops.WriteAt decl) stack word = on_two stack (λ value index below. below)
+done_stack (ops.Xchg decl) stack word = on_top stack (λ top below. word ∷ below)
+done_stack (ops.AddTo decl) stack word = on_top stack (λ top below. word ∷ below)
+done_stack (ops.Cas decl) stack word = on_two stack (λ expected new below. word ∷ below)
 done_stack op stack word = stack
 
 -- the monitors held after a shared instruction

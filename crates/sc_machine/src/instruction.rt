@@ -14,7 +14,7 @@ use crate::printing::push_line;
 use crate::stop::Stop;
 use crate::trap::Trap;
 use stride_base::List;
-use stride_isa::{Checked, Op, Stack, instructions};
+use stride_isa::{Change, Checked, Op, Stack, instructions};
 
 /// What an instruction came to.
 #[derive(Clone, Copy)]
@@ -183,6 +183,27 @@ macro_rules! stands {
             None => Next::Ends(trapped(Trap::Range, $pc)),
         }
     };
+    (Xchg ($program:ident $pc:ident $stack:ident $locals:ident $held:ident $out:ident) $decl:ident) => {
+        Next::Stands(Stop::Update {
+            cell: $program.first_cell($decl),
+            change: Change::Store($stack.peek(0)),
+        })
+    };
+    (AddTo ($program:ident $pc:ident $stack:ident $locals:ident $held:ident $out:ident) $decl:ident) => {
+        Next::Stands(Stop::Update {
+            cell: $program.first_cell($decl),
+            change: Change::Plus($stack.peek(0)),
+        })
+    };
+    (Cas ($program:ident $pc:ident $stack:ident $locals:ident $held:ident $out:ident) $decl:ident) => {
+        Next::Stands(Stop::Update {
+            cell: $program.first_cell($decl),
+            change: Change::IfEqual {
+                expected: $stack.peek(1),
+                new: $stack.peek(0),
+            },
+        })
+    };
     (Enter ($program:ident $pc:ident $stack:ident $locals:ident $held:ident $out:ident) $monitor:ident) => {
         if $held[monitor_index($program, $monitor)] {
             Next::Ends(trapped(Trap::Again, $pc))
@@ -310,7 +331,12 @@ pub fn finish(
         Op::Write(_) => {
             stack.pop();
         }
-        Op::ReadAt(_) => {
+        Op::ReadAt(_) | Op::Xchg(_) | Op::AddTo(_) => {
+            stack.pop();
+            stack.push(word);
+        }
+        Op::Cas(_) => {
+            stack.pop();
             stack.pop();
             stack.push(word);
         }

@@ -105,6 +105,7 @@ impl<'p> StandingThread<'p> {
             Stop::Ended { end } => end,
             Stop::Read { cell: _ }
             | Stop::Write { cell: _, value: _ }
+            | Stop::Update { cell: _, change: _ }
             | Stop::Enter { mon: _ }
             | Stop::Exit { mon: _ } => run.give_up(),
         };

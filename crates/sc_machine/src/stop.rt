@@ -1,6 +1,7 @@
 //! Where a thread stands.
 
 use crate::end::End;
+use stride_isa::Change;
 
 /// Where a thread stands after its local instructions: at a shared one, or at its end.
 #[derive(Clone, Copy, Debug, PartialEq, Eq)]
@@ -9,6 +10,8 @@ pub enum Stop {
     Read { cell: u32 },
     /// At a write of this value into this cell.
     Write { cell: u32, value: u64 },
+    /// At an atomic update of this cell.
+    Update { cell: u32, change: Change },
     /// At an entry into this monitor, which it does not hold.
     Enter { mon: u32 },
     /// At an exit from this monitor, which it holds.

@@ -139,7 +139,8 @@ impl<'p> ThreadRun<'p> {
         }
     }
 
-    /// Completes the shared instruction at which the thread stands. The word is there exactly for a read, which gets it.
+    /// Completes the shared instruction at which the thread stands. The word is there exactly for a read or an
+    /// update, which gets it.
     pub fn answer(&mut self, word: Option<u64>)
         requires { TakesWord (stop_at self.old) word }
         ensures state { IsAnswered self.old self.new (unwrap_or word 0) }

@@ -7,7 +7,7 @@ use Rattle.stride_isa.specs.Instructions.{spelling}
 
 -- all kinds, each at its row
 abbrev pub table : List OpKind
-table = kinds.Push ∷ kinds.Dup ∷ kinds.Drop ∷ kinds.Swap ∷ kinds.Over ∷ kinds.Add ∷ kinds.Sub ∷ kinds.Mul ∷ kinds.Div ∷ kinds.Rem ∷ kinds.And ∷ kinds.Or ∷ kinds.Xor ∷ kinds.Shl ∷ kinds.Shr ∷ kinds.Eq ∷ kinds.Lt ∷ kinds.Not ∷ kinds.Get ∷ kinds.Set ∷ kinds.Jump ∷ kinds.Jz ∷ kinds.Jnz ∷ kinds.Read ∷ kinds.Write ∷ kinds.ReadAt ∷ kinds.WriteAt ∷ kinds.Enter ∷ kinds.Exit ∷ kinds.Print ∷ kinds.Halt ∷ []
+table = kinds.Push ∷ kinds.Dup ∷ kinds.Drop ∷ kinds.Swap ∷ kinds.Over ∷ kinds.Add ∷ kinds.Sub ∷ kinds.Mul ∷ kinds.Div ∷ kinds.Rem ∷ kinds.And ∷ kinds.Or ∷ kinds.Xor ∷ kinds.Shl ∷ kinds.Shr ∷ kinds.Eq ∷ kinds.Lt ∷ kinds.Not ∷ kinds.Get ∷ kinds.Set ∷ kinds.Jump ∷ kinds.Jz ∷ kinds.Jnz ∷ kinds.Read ∷ kinds.Write ∷ kinds.ReadAt ∷ kinds.WriteAt ∷ kinds.Xchg ∷ kinds.AddTo ∷ kinds.Cas ∷ kinds.Enter ∷ kinds.Exit ∷ kinds.Print ∷ kinds.Halt ∷ []
 
 -- a word that no row's name is, is no kind's name
 unnamed_each : (word : List ℕ) → ((i : ℕ) (d : OpKind) → i < length table → spelling (slice_index_or table i d) ≢ word) → (kind : OpKind) → spelling kind ≢ word
@@ -38,10 +38,13 @@ unnamed_each word h kinds.Read = h 23 kinds.Read (omega arith)
 unnamed_each word h kinds.Write = h 24 kinds.Write (omega arith)
 unnamed_each word h kinds.ReadAt = h 25 kinds.ReadAt (omega arith)
 unnamed_each word h kinds.WriteAt = h 26 kinds.WriteAt (omega arith)
-unnamed_each word h kinds.Enter = h 27 kinds.Enter (omega arith)
-unnamed_each word h kinds.Exit = h 28 kinds.Exit (omega arith)
-unnamed_each word h kinds.Print = h 29 kinds.Print (omega arith)
-unnamed_each word h kinds.Halt = h 30 kinds.Halt (omega arith)
+unnamed_each word h kinds.Xchg = h 27 kinds.Xchg (omega arith)
+unnamed_each word h kinds.AddTo = h 28 kinds.AddTo (omega arith)
+unnamed_each word h kinds.Cas = h 29 kinds.Cas (omega arith)
+unnamed_each word h kinds.Enter = h 30 kinds.Enter (omega arith)
+unnamed_each word h kinds.Exit = h 31 kinds.Exit (omega arith)
+unnamed_each word h kinds.Print = h 32 kinds.Print (omega arith)
+unnamed_each word h kinds.Halt = h 33 kinds.Halt (omega arith)
 
 -- the same of an answer of none
 pub unnamed : (result : Option OpKind) (word : List ℕ) → IfNone result ((i : ℕ) (d : OpKind) → i < length table → spelling (slice_index_or table i d) ≢ word) → IfNone result ((kind : OpKind) → spelling kind ≢ word)

@@ -5,7 +5,7 @@ use Rattle.stride_isa.specs.Listing.{Listing, code_of, op_at, decl_at}
 use Rattle.stride_isa.specs.declared.decl.Shape.{Shape}
 use Rattle.stride_isa.specs.declared.decl.Shape.TheVariants.{Single, Array}
 use Rattle.stride_isa.specs.declared.op.Op.{Op}
-use Rattle.stride_isa.specs.declared.op.Op.TheVariants.{Get, Set, Jump, Jz, Jnz, Read, Write, ReadAt, WriteAt, Enter, Exit, Halt}
+use Rattle.stride_isa.specs.declared.op.Op.TheVariants.{Get, Set, Jump, Jz, Jnz, Read, Write, ReadAt, WriteAt, Xchg, AddTo, Cas, Enter, Exit, Halt}
 
 -- the most words on an operand stack
 abbrev pub stack_limit : ℕ
@@ -40,6 +40,9 @@ Names p (Read decl) = (decl < length p.decls) × ((decl_at p decl).shape ≡ Sin
 Names p (Write decl) = (decl < length p.decls) × ((decl_at p decl).shape ≡ Single)
 Names p (ReadAt decl) = (decl < length p.decls) × IsArray (decl_at p decl).shape
 Names p (WriteAt decl) = (decl < length p.decls) × IsArray (decl_at p decl).shape
+Names p (Xchg decl) = (decl < length p.decls) × ((decl_at p decl).shape ≡ Single)
+Names p (AddTo decl) = (decl < length p.decls) × ((decl_at p decl).shape ≡ Single)
+Names p (Cas decl) = (decl < length p.decls) × ((decl_at p decl).shape ≡ Single)
 Names p (Enter monitor) = monitor < length p.monitors
 Names p (Exit monitor) = monitor < length p.monitors
 Names p op = Unit {0}

@@ -7,6 +7,7 @@
 //! which there is one (`Laws`).
 #![tactic(auto)]
 
+mod change;
 mod check_error;
 mod checking;
 mod decl;
@@ -24,6 +25,7 @@ mod stack;
 mod straying;
 mod successors;
 
+pub use change::Change;
 pub use check_error::{CheckError, CheckKind};
 pub use checking::{Checked, check};
 pub use decl::{Decl, Shape};

@@ -51,7 +51,9 @@ fn names(program: &Program, op: Op) -> bool
 {
     match op {
         Op::Get(local) | Op::Set(local) => local < LOCAL_COUNT,
-        Op::Read(decl) | Op::Write(decl) => names_variable(program, decl),
+        Op::Read(decl) | Op::Write(decl) | Op::Xchg(decl) | Op::AddTo(decl) | Op::Cas(decl) => {
+            names_variable(program, decl)
+        }
         Op::ReadAt(decl) | Op::WriteAt(decl) => names_array(program, decl),
         Op::Enter(monitor) | Op::Exit(monitor) => monitor < program.monitors(),
         _ => true,

@@ -34,6 +34,9 @@ pub enum OpKind {
     Write,
     ReadAt,
     WriteAt,
+    Xchg,
+    AddTo,
+    Cas,
     Enter,
     Exit,
     Print,
@@ -71,6 +74,9 @@ pub enum Op {
     Write(u32),
     ReadAt(u32),
     WriteAt(u32),
+    Xchg(u32),
+    AddTo(u32),
+    Cas(u32),
     Enter(u32),
     Exit(u32),
     Print,
@@ -113,6 +119,9 @@ macro_rules! instructions {
             [Write (_) "write" 1 0 stands]
             [ReadAt (_) "readat" 1 1 stands]
             [WriteAt (_) "writeat" 2 0 stands]
+            [Xchg (_) "xchg" 1 1 stands]
+            [AddTo (_) "addto" 1 1 stands]
+            [Cas (_) "cas" 2 1 stands]
             [Enter (_) "enter" 0 0 stands]
             [Exit (_) "exit" 0 0 stands]
             [Print () "print" 1 0 prints]
@@ -162,7 +171,7 @@ macro_rules! all_kinds {
     };
 }
 
-const KINDS: [OpKind; 31] = instructions!(all_kinds!());
+const KINDS: [OpKind; 34] = instructions!(all_kinds!());
 
 /// Which instruction this is.
 pub fn kind_of(op: Op) -> OpKind

@@ -30,7 +30,7 @@ fn names(rt: HostRuntime) {
 
 #[test]
 fn instructions_by_name(rt: HostRuntime) {
-    let rows: [(&[u8], OpKind, u8, u8); 31] = [
+    let rows: [(&[u8], OpKind, u8, u8); 34] = [
         (b"push", OpKind::Push, 0, 1),
         (b"dup", OpKind::Dup, 1, 2),
         (b"drop", OpKind::Drop, 1, 0),
@@ -58,6 +58,9 @@ fn instructions_by_name(rt: HostRuntime) {
         (b"write", OpKind::Write, 1, 0),
         (b"readat", OpKind::ReadAt, 1, 1),
         (b"writeat", OpKind::WriteAt, 2, 0),
+        (b"xchg", OpKind::Xchg, 1, 1),
+        (b"addto", OpKind::AddTo, 1, 1),
+        (b"cas", OpKind::Cas, 2, 1),
         (b"enter", OpKind::Enter, 0, 0),
         (b"exit", OpKind::Exit, 0, 0),
         (b"print", OpKind::Print, 1, 0),
