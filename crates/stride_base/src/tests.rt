@@ -42,36 +42,36 @@ fn list_grows(rt: HostRuntime) -> Result<(), Fail> {
     Ok(())
 }
 
-fn read_bytes(
-    alloc: Global,
-    bytes: &[u8],
-    failing: &[u32],
-    limit: usize,
-) -> Result<List<u8>, InputError> {
-    let mut source = MemSource::new(alloc, bytes, failing)?;
-    read_all(alloc, &mut source, limit)
-}
-
 #[test]
 fn input_is_read_to_its_end(rt: HostRuntime) -> Result<(), Fail> {
     let alloc = rt.alloc();
-    for (bytes, failing, limit, want) in [
-        (b"abc".as_slice(), [].as_slice(), 3, Ok(b"abc".as_slice())),
-        (b"abcd", &[], 3, Err(InputError::TooLong)),
-        (b"", &[], 3, Ok(b"")),
-        (b"", &[], 0, Ok(b"")),
-        (b"a", &[], 0, Err(InputError::TooLong)),
-        (b"abc", &[], usize::MAX, Ok(b"abc")),
-        (b"abc", &[1], 3, Err(InputError::ReadFault)),
-        (b"abc", &[2], 3, Err(InputError::ReadFault)),
-        (b"abc", &[3], 3, Ok(b"abc")),
-        (b"abcd", &[2], 3, Err(InputError::TooLong)),
+    for (bytes, failing, limit, want, rest) in [
+        (
+            b"abc".as_slice(),
+            [].as_slice(),
+            3,
+            Ok(b"abc".as_slice()),
+            b"".as_slice(),
+        ),
+        (b"abcd", &[], 3, Err(InputError::TooLong), b""),
+        (b"abcdef", &[], 3, Err(InputError::TooLong), b"ef"),
+        (b"", &[], 3, Ok(b""), b""),
+        (b"", &[], 0, Ok(b""), b""),
+        (b"a", &[], 0, Err(InputError::TooLong), b""),
+        (b"ab", &[], 0, Err(InputError::TooLong), b"b"),
+        (b"abc", &[], usize::MAX, Ok(b"abc"), b""),
+        (b"abc", &[1], 3, Err(InputError::ReadFault), b"abc"),
+        (b"abc", &[2], 3, Err(InputError::ReadFault), b""),
+        (b"abc", &[3], 3, Ok(b"abc"), b""),
+        (b"abcd", &[2], 3, Err(InputError::TooLong), b""),
     ] {
-        match (read_bytes(alloc, bytes, failing, limit), want) {
+        let mut source = MemSource::new(alloc, bytes, failing)?;
+        match (read_all(alloc, &mut source, limit), want) {
             (Ok(list), Ok(want)) => assert_eq!(rt; list.as_slice(), want),
             (Err(error), Err(want)) => assert_eq!(rt; error, want),
             _ => assert!(rt; false, "{bytes:?} {failing:?} {limit}"),
         }
+        assert_eq!(rt; source.rest(), rest);
     }
     Ok(())
 }
