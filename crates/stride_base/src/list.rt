@@ -1,5 +1,5 @@
 //! `List`: a growing list that knows how much room it has reserved.
-ghost use Rattle.std.specs.Prelude.{◌≡◌, ◌+◌, ◌^◌, ◌<◌, ◌≤◌, ◌↔◌, [], ◌∷◌, ◌++◌, length, IsTrue, IsOk, OnOk, OnErr, Some, slice_get, slice_index_or};
+ghost use Rattle.std.specs.Prelude.{◌≡◌, ◌+◌, ◌^◌, ◌<◌, ◌≤◌, ◌↔◌, [], ◌∷◌, ◌++◌, length, take, IsTrue, IsOk, OnOk, OnErr, Some, slice_get, slice_index_or};
 ghost use Rattle.std.specs.Borrow.{sem};
 
 use crate::no_memory::NoMemory;
@@ -112,6 +112,18 @@ impl<T> List<T> {
         ensures item { slice_get self.old.items i ≡ Some result.now }
     {
         &mut self.items[i]
+    }
+
+    /// Lets go of the items after the first `len`, whose room becomes spare. It takes no memory.
+    pub fn cut(&mut self, len: usize)
+    where
+        T: Drop,
+        requires { len ≤ length self.old.items }
+        ensures items { self.new.items ≡ take len self.old.items }
+        ensures spare { self.new.spare + len ≡ self.old.spare + length self.old.items }
+    {
+        self.spare += self.items.len() - len;
+        self.items.truncate(len);
     }
 
     /// The items, in order.

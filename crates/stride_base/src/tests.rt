@@ -43,6 +43,20 @@ fn list_grows(rt: HostRuntime) -> Result<(), Fail> {
 }
 
 #[test]
+fn list_is_cut(rt: HostRuntime) -> Result<(), Fail> {
+    let mut list = three_items(rt.alloc())?;
+    assert_eq!(rt; list.len(), 3);
+    list.cut(1);
+    list.push_spare(8);
+    list.push_spare(9);
+    assert_eq!(rt; list.as_slice(), [5, 8, 9].as_slice());
+    list.cut(3);
+    list.cut(0);
+    assert!(rt; list.is_empty());
+    Ok(())
+}
+
+#[test]
 fn input_is_read_to_its_end(rt: HostRuntime) -> Result<(), Fail> {
     let alloc = rt.alloc();
     for (bytes, failing, limit, want, rest) in [
