@@ -6,6 +6,7 @@
 //! `Source` and `Sink`, and count their work with `Steps`.
 #![tactic(auto)]
 
+mod ascending;
 mod failed;
 mod failing_calls;
 mod input_error;
@@ -23,6 +24,7 @@ mod steps;
 #[cfg(test)]
 mod tests;
 
+pub use ascending::Ascending;
 pub use failed::Failed;
 pub use input_error::InputError;
 pub use list::List;

@@ -1,5 +1,5 @@
 //! `List`: a growing list that knows how much room it has reserved.
-ghost use Rattle.std.specs.Prelude.{◌≡◌, ◌+◌, ◌^◌, ◌<◌, ◌≤◌, ◌↔◌, [], ◌∷◌, ◌++◌, length, take, IsTrue, IsOk, OnOk, OnErr, Some, slice_get, slice_index_or};
+ghost use Rattle.std.specs.Prelude.{◌≡◌, ◌+◌, ◌^◌, ◌<◌, ◌≤◌, ◌↔◌, [], ◌∷◌, ◌++◌, length, take, IsTrue, IsOk, IsPermutation, IsSorted, OnOk, OnErr, Some, slice_get, slice_index_or};
 ghost use Rattle.std.specs.Borrow.{sem};
 
 use crate::no_memory::NoMemory;
@@ -155,5 +155,16 @@ impl<T: Copy> List<T> {
     {
         self.items.extend_from_slice(piece).unwrap();
         self.spare -= piece.len();
+    }
+}
+
+impl<T: Ord> List<T> {
+    /// Sorts the items. It takes no memory.
+    pub(crate) fn sort_unstable(&mut self)
+        ensures permutation { IsPermutation self.old.items self.new.items }
+        ensures sorted { IsSorted T.cmp self.new.items }
+        ensures spare { self.new.spare ≡ self.old.spare }
+    {
+        self.items.sort_unstable();
     }
 }

@@ -1,10 +1,11 @@
 //! What no clause says: that calls with ample memory succeed, that the clauses serve their callers,
 //! and what the wrappers of std's devices do.
-ghost use Rattle.std.specs.Prelude.{◌≡◌, ◌+◌, ◌<◌, length, slice_set};
+ghost use Rattle.std.specs.Prelude.{◌≡◌, ◌+◌, ◌<◌, IfOk, length, slice_set};
+ghost use Rattle.stride_base.specs.Ascending.{AreDistinct};
 
 use crate::{
-    Failed, InputError, List, MemSink, MemSource, NoMemory, Sink, StdSink, StdSource, Steps,
-    put_all, read_all,
+    Ascending, Failed, InputError, List, MemSink, MemSource, NoMemory, Sink, StdSink, StdSource,
+    Steps, put_all, read_all,
 };
 use std::alloc::Global;
 use std::io;
@@ -211,4 +212,82 @@ fn count_two<L: Ledger, R: Threads + Wait + Sync>(rt: &R, blank: Blank)
 #[test]
 fn steps_are_counted(rt: HostRuntime) {
     count_two::<Brand, HostRuntime>(&rt, Blank::new(1));
+}
+
+// Each triple's third member is its place, so no two are equal.
+fn four_triples(alloc: Global) -> Result<List<(u32, u64, u32)>, NoMemory>
+    ensures distinct { IfOk result (λ list. AreDistinct list.items) }
+    ensures len { IfOk result (λ list. length list.items ≡ 4) }
+{
+    let mut list = List::new(alloc);
+    list.push_all(&[(7, 5, 0), (2, u64::MAX, 1), (7, 1, 2), (2, u64::MAX, 3)])?;
+    Ok(list)
+}
+
+fn all_four<L: Ledger>(index: &Ascending, steps: &mut Steps<L>) -> [(u32, u64, u32); 4]
+    requires { length index.now ≡ 4 }
+    ensures { steps.new ≡ steps.old + 4 }
+{
+    [
+        index.at(0, steps),
+        index.at(1, steps),
+        index.at(2, steps),
+        index.at(3, steps),
+    ]
+}
+
+fn expect_four<L: Ledger>(_steps: &Steps<L>)
+    requires { _steps.now ≡ 4 }
+{}
+
+fn look_at_four<L: Ledger, R: Threads + Wait + Sync>(
+    rt: &R,
+    blank: Blank,
+    index: &Ascending,
+) -> [(u32, u64, u32); 4]
+    requires name { blank.name ≡ L.name }
+    requires parts { blank.parts ≡ L.parts }
+    requires some_part { 0 < blank.parts }
+    requires four { length index.now ≡ 4 }
+{
+    let mut steps = Steps::<L>::new(rt, blank);
+    let triples = all_four(index, &mut steps);
+    expect_four(&steps);
+    triples
+}
+
+#[test]
+fn triples_are_sorted_and_looks_counted(rt: HostRuntime) -> Result<(), Fail> {
+    let index = Ascending::sorted(four_triples(rt.alloc())?);
+    assert_eq!(rt; index.len(), 4);
+    let triples = look_at_four::<Brand, HostRuntime>(&rt, Blank::new(1), &index);
+    assert_eq!(rt;
+        triples,
+        [(2, u64::MAX, 1), (2, u64::MAX, 3), (7, 1, 2), (7, 5, 0)]
+    );
+    Ok(())
+}
+
+fn expect_moves<T: Send>(_value: &T) {}
+
+fn expect_shares<T: Sync>(_value: &T) {}
+
+// A list may be moved to another thread where its items may, and shared where they may.
+fn list_moves<T: Send>(list: &List<T>) {
+    expect_moves(list);
+}
+
+fn list_shares<T: Sync>(list: &List<T>) {
+    expect_shares(list);
+}
+
+#[test]
+fn lists_cross_threads(rt: HostRuntime) -> Result<(), Fail> {
+    let triples = four_triples(rt.alloc())?;
+    list_moves(&triples);
+    list_shares(&triples);
+    let index = Ascending::sorted(triples);
+    expect_moves(&index);
+    expect_shares(&index);
+    Ok(())
 }
