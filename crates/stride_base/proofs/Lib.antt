@@ -1,3 +1,4 @@
+pub mod AscendingLemmas
 pub mod ListedCalls
 pub mod SinkLemmas
 pub mod SourceLemmas

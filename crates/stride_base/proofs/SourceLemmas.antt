@@ -2,7 +2,7 @@
 use Rattle.std.proofs.Common.{◌≡◌, ℕ, ◌+◌, ◌<◌, ◌≤◌, List, [], ◌++◌, length, take, Option, Some, None, refl, sym, ap, ◌∙◌, append_assoc, length-append, arith}
 use Rattle.std.proofs.lemmas.List.{append-nil, length-take-le}
 use Rattle.std.specs.Prelude.{IfSome}
-use Rattle.stride_base.specs.Devices.{Takes}
+use Rattle.stride_base.specs.Devices.{Takes, TakesMany}
 
 -- nothing taken leaves all
 Takes-none : (left : Option (List ℕ)) → Takes left left []
@@ -59,3 +59,11 @@ module _ {a b : Option (List ℕ)} {xs : List ℕ} {f g : ℕ} (so_far : ReadSoF
   ReadSoFar-longer c buf n limit taken within long =
       Takes-longer a c (xs ++ take n buf) limit (Takes-more a b c xs (take n buf) so_far.taken taken)
       (omega (arith, length-append xs (take n buf), length-take-le n buf within))
+
+  -- a read that gave the byte past the limit took no more than that
+  pub ReadSoFar-past : (c : Option (List ℕ)) (buf : List ℕ) (n limit : ℕ) → Takes b c (take n buf) → n ≤ length buf → length xs + n ≡ limit + 1 → TakesMany a c (limit + 1)
+  ReadSoFar-past c buf n limit taken within count = record {
+    bytes = xs ++ take n buf;
+    many = omega (arith, length-append xs (take n buf), length-take-le n buf within);
+    taken = Takes-more a b c xs (take n buf) so_far.taken taken;
+  }

@@ -1,5 +1,5 @@
 -- What a device does to the bytes that it tells, and to its count of faults.
-use Rattle.std.specs.Prelude.{◌≡◌, ℕ, ◌+◌, ◌-◌, ◌^◌, ◌≤◌, min, List, ◌++◌, ⊤, Option, Some, None}
+use Rattle.std.specs.Prelude.{◌≡◌, ℕ, ◌+◌, ◌-◌, ◌^◌, ◌≤◌, min, List, ◌++◌, length, ⊤, Option, Some, None}
 
 -- the bytes left lost these from their front. Who tells goes on telling, and who doesn't never does
 abbrev pub Takes : Option (List ℕ) → Option (List ℕ) → List ℕ → Type 0
@@ -7,6 +7,12 @@ Takes None None bytes = ⊤
 Takes None (Some new) bytes = ⊥
 Takes (Some old) None bytes = ⊥
 Takes (Some old) (Some new) bytes = old ≡ bytes ++ new
+
+-- the bytes left lost this many from their front
+pub record TakesMany (old new : Option (List ℕ)) (count : ℕ) : Type 0 where
+  pub bytes : List ℕ
+  pub many : length bytes ≡ count
+  pub taken : Takes old new bytes
 
 -- the bytes held gained these at their end. Who tells goes on telling, and who doesn't never does
 abbrev pub Adds : Option (List ℕ) → Option (List ℕ) → List ℕ → Type 0

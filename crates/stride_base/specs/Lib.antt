@@ -1,3 +1,4 @@
+pub mod Ascending
 pub mod Devices
 pub mod ListLends
 pub mod Listed

@@ -43,18 +43,18 @@ pub record MemorySink : Type 0 where
   pub faults : ℕ
 
 -- the next call fails: it is listed, or no room is left
-abbrev pub put_fails : MemorySink → Bool
-put_fails s = is_listed s.failing (raised s.calls) || nat_le s.room (length s.held)
+abbrev pub is_put_failing : MemorySink → Bool
+is_put_failing s = is_listed s.failing (raised s.calls) || nat_le s.room (length s.held)
 
 -- what the next call answers for this piece: the number of bytes taken, or none where it fails
 abbrev pub put_answer : MemorySink → List ℕ → Option ℕ
 put_answer s piece =
-    if put_fails s then None else Some (min (min s.per_call (length piece)) (s.room - length s.held))
+    if is_put_failing s then None else Some (min (min s.per_call (length piece)) (s.room - length s.held))
 
 -- the sink after that call
 abbrev pub after_put : MemorySink → List ℕ → MemorySink
 after_put s piece = record s {
   held = s.held ++ take (unwrap_or (put_answer s piece) 0) piece;
   calls = raised s.calls;
-  faults = if put_fails s then raised s.faults else s.faults;
+  faults = if is_put_failing s then raised s.faults else s.faults;
 }

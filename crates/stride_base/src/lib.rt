@@ -1,14 +1,17 @@
-//! Lists, devices and counters: what every other crate of the project stands on.
+//! Lists, devices, counters and limits: what most crates of the project stand on.
 //!
-//! It owns the definitions of what a list is seen as (`Listed`), of what a device does to the bytes
-//! that it tells and to its count of faults (`Devices`), and of the devices over memory
-//! (`MemoryDevices`). The layers above use `List` for all that grows, reach the outside only through
-//! `Source` and `Sink`, and count their work with `Steps`.
+//! It owns the definitions of what a list is seen as (`Listed`), of triples in dictionary order
+//! (`Ascending`), of what a device does to the bytes that it tells and to its count of faults
+//! (`Devices`), and of the devices over memory (`MemoryDevices`). The layers above may use all that
+//! is public: `List` where reserved room has to be known, and std's collections elsewhere; `Source`
+//! and `Sink` for what a command reads and writes; `Steps` and `Ascending` to count looks.
 #![tactic(auto)]
 
+mod ascending;
 mod failed;
 mod failing_calls;
 mod input_error;
+pub mod limits;
 mod list;
 mod mem_sink;
 mod mem_source;
@@ -23,6 +26,7 @@ mod steps;
 #[cfg(test)]
 mod tests;
 
+pub use ascending::Ascending;
 pub use failed::Failed;
 pub use input_error::InputError;
 pub use list::List;

@@ -1,5 +1,5 @@
 //! `List`: a growing list that knows how much room it has reserved.
-ghost use Rattle.std.specs.Prelude.{◌≡◌, ◌+◌, ◌^◌, ◌<◌, ◌≤◌, ◌↔◌, [], ◌∷◌, ◌++◌, length, IsTrue, IsOk, OnOk, OnErr, Some, slice_get, slice_index_or};
+ghost use Rattle.std.specs.Prelude.{◌≡◌, ◌+◌, ◌^◌, ◌<◌, ◌≤◌, ◌↔◌, [], ◌∷◌, ◌++◌, length, take, IsTrue, IsOk, IsPermutation, IsSorted, OnOk, OnErr, Some, slice_get, slice_index_or};
 ghost use Rattle.std.specs.Borrow.{sem};
 
 use crate::no_memory::NoMemory;
@@ -114,6 +114,18 @@ impl<T> List<T> {
         &mut self.items[i]
     }
 
+    /// Lets go of the items after the first `len`, whose room becomes spare. It takes no memory.
+    pub fn cut(&mut self, len: usize)
+    where
+        T: Drop,
+        requires { len ≤ length self.old.items }
+        ensures items { self.new.items ≡ take len self.old.items }
+        ensures spare { self.new.spare + len ≡ self.old.spare + length self.old.items }
+    {
+        self.spare += self.items.len() - len;
+        self.items.truncate(len);
+    }
+
     /// The items, in order.
     pub fn as_slice(&self) -> &[T]
         ensures { result.now ≡ self.now.items }
@@ -143,5 +155,16 @@ impl<T: Copy> List<T> {
     {
         self.items.extend_from_slice(piece).unwrap();
         self.spare -= piece.len();
+    }
+}
+
+impl<T: Ord> List<T> {
+    /// Sorts the items. It takes no memory.
+    pub(crate) fn sort_unstable(&mut self)
+        ensures permutation { IsPermutation self.old.items self.new.items }
+        ensures sorted { IsSorted T.cmp self.new.items }
+        ensures spare { self.new.spare ≡ self.old.spare }
+    {
+        self.items.sort_unstable();
     }
 }

@@ -1,6 +1,6 @@
 //! `read_all`: the whole of an input.
-ghost use Rattle.std.specs.Prelude.{◌≡◌, ◌<◌, ◌≤◌, [], length, vec_len, Err, IfSome, IfOk, OnOk};
-ghost use Rattle.stride_base.specs.Devices.{Rose};
+ghost use Rattle.std.specs.Prelude.{◌≡◌, ◌+◌, ◌<◌, ◌≤◌, [], length, vec_len, Err, IfSome, IfOk, OnOk};
+ghost use Rattle.stride_base.specs.Devices.{TakesMany, Rose};
 
 use crate::input_error::InputError;
 use crate::list::List;
@@ -25,6 +25,11 @@ pub fn read_all<S: Source>(
     ensures read_fault { result ≡ Err InputError.ReadFault → Rose (S.faults source.old) (S.faults source.new) }
     ensures too_long { result ≡ Err InputError.TooLong
         → IfSome (S.left source.old) (λ bytes. limit < length bytes) }
+
+    // One byte past the limit was read, and no more.
+    ensures past { result ≡ Err InputError.TooLong
+        → TakesMany (S.left source.old) (S.left source.new) (limit + 1) }
+
     ensures counted { S.faults source.old ≤ S.faults source.new }
 {
     let mut buffer = zeros(alloc, PIECE_LEN)?;

@@ -1,10 +1,11 @@
 //! What no clause says: that calls with ample memory succeed, that the clauses serve their callers,
 //! and what the wrappers of std's devices do.
-ghost use Rattle.std.specs.Prelude.{◌≡◌, ◌+◌, ◌<◌, length, slice_set};
+ghost use Rattle.std.specs.Prelude.{◌≡◌, ◌+◌, ◌<◌, IfOk, length, slice_set};
+ghost use Rattle.stride_base.specs.Ascending.{AreDistinct};
 
 use crate::{
-    Failed, InputError, List, MemSink, MemSource, NoMemory, Sink, StdSink, StdSource, Steps,
-    put_all, read_all,
+    Ascending, Failed, InputError, List, MemSink, MemSource, NoMemory, Sink, StdSink, StdSource,
+    Steps, put_all, read_all,
 };
 use std::alloc::Global;
 use std::io;
@@ -42,36 +43,50 @@ fn list_grows(rt: HostRuntime) -> Result<(), Fail> {
     Ok(())
 }
 
-fn read_bytes(
-    alloc: Global,
-    bytes: &[u8],
-    failing: &[u32],
-    limit: usize,
-) -> Result<List<u8>, InputError> {
-    let mut source = MemSource::new(alloc, bytes, failing)?;
-    read_all(alloc, &mut source, limit)
+#[test]
+fn list_is_cut(rt: HostRuntime) -> Result<(), Fail> {
+    let mut list = three_items(rt.alloc())?;
+    assert_eq!(rt; list.len(), 3);
+    list.cut(1);
+    list.push_spare(8);
+    list.push_spare(9);
+    assert_eq!(rt; list.as_slice(), [5, 8, 9].as_slice());
+    list.cut(3);
+    list.cut(0);
+    assert!(rt; list.is_empty());
+    Ok(())
 }
 
 #[test]
 fn input_is_read_to_its_end(rt: HostRuntime) -> Result<(), Fail> {
     let alloc = rt.alloc();
-    for (bytes, failing, limit, want) in [
-        (b"abc".as_slice(), [].as_slice(), 3, Ok(b"abc".as_slice())),
-        (b"abcd", &[], 3, Err(InputError::TooLong)),
-        (b"", &[], 3, Ok(b"")),
-        (b"", &[], 0, Ok(b"")),
-        (b"a", &[], 0, Err(InputError::TooLong)),
-        (b"abc", &[], usize::MAX, Ok(b"abc")),
-        (b"abc", &[1], 3, Err(InputError::ReadFault)),
-        (b"abc", &[2], 3, Err(InputError::ReadFault)),
-        (b"abc", &[3], 3, Ok(b"abc")),
-        (b"abcd", &[2], 3, Err(InputError::TooLong)),
+    for (bytes, failing, limit, want, rest) in [
+        (
+            b"abc".as_slice(),
+            [].as_slice(),
+            3,
+            Ok(b"abc".as_slice()),
+            b"".as_slice(),
+        ),
+        (b"abcd", &[], 3, Err(InputError::TooLong), b""),
+        (b"abcdef", &[], 3, Err(InputError::TooLong), b"ef"),
+        (b"", &[], 3, Ok(b""), b""),
+        (b"", &[], 0, Ok(b""), b""),
+        (b"a", &[], 0, Err(InputError::TooLong), b""),
+        (b"ab", &[], 0, Err(InputError::TooLong), b"b"),
+        (b"abc", &[], usize::MAX, Ok(b"abc"), b""),
+        (b"abc", &[1], 3, Err(InputError::ReadFault), b"abc"),
+        (b"abc", &[2], 3, Err(InputError::ReadFault), b""),
+        (b"abc", &[3], 3, Ok(b"abc"), b""),
+        (b"abcd", &[2], 3, Err(InputError::TooLong), b""),
     ] {
-        match (read_bytes(alloc, bytes, failing, limit), want) {
+        let mut source = MemSource::new(alloc, bytes, failing)?;
+        match (read_all(alloc, &mut source, limit), want) {
             (Ok(list), Ok(want)) => assert_eq!(rt; list.as_slice(), want),
             (Err(error), Err(want)) => assert_eq!(rt; error, want),
             _ => assert!(rt; false, "{bytes:?} {failing:?} {limit}"),
         }
+        assert_eq!(rt; source.rest(), rest);
     }
     Ok(())
 }
@@ -197,4 +212,82 @@ fn count_two<L: Ledger, R: Threads + Wait + Sync>(rt: &R, blank: Blank)
 #[test]
 fn steps_are_counted(rt: HostRuntime) {
     count_two::<Brand, HostRuntime>(&rt, Blank::new(1));
+}
+
+// Each triple's third member is its place, so no two are equal.
+fn four_triples(alloc: Global) -> Result<List<(u32, u64, u32)>, NoMemory>
+    ensures distinct { IfOk result (λ list. AreDistinct list.items) }
+    ensures len { IfOk result (λ list. length list.items ≡ 4) }
+{
+    let mut list = List::new(alloc);
+    list.push_all(&[(7, 5, 0), (2, u64::MAX, 1), (7, 1, 2), (2, u64::MAX, 3)])?;
+    Ok(list)
+}
+
+fn all_four<L: Ledger>(index: &Ascending, steps: &mut Steps<L>) -> [(u32, u64, u32); 4]
+    requires { length index.now ≡ 4 }
+    ensures { steps.new ≡ steps.old + 4 }
+{
+    [
+        index.at(0, steps),
+        index.at(1, steps),
+        index.at(2, steps),
+        index.at(3, steps),
+    ]
+}
+
+fn expect_four<L: Ledger>(_steps: &Steps<L>)
+    requires { _steps.now ≡ 4 }
+{}
+
+fn look_at_four<L: Ledger, R: Threads + Wait + Sync>(
+    rt: &R,
+    blank: Blank,
+    index: &Ascending,
+) -> [(u32, u64, u32); 4]
+    requires name { blank.name ≡ L.name }
+    requires parts { blank.parts ≡ L.parts }
+    requires some_part { 0 < blank.parts }
+    requires four { length index.now ≡ 4 }
+{
+    let mut steps = Steps::<L>::new(rt, blank);
+    let triples = all_four(index, &mut steps);
+    expect_four(&steps);
+    triples
+}
+
+#[test]
+fn triples_are_sorted_and_looks_counted(rt: HostRuntime) -> Result<(), Fail> {
+    let index = Ascending::sorted(four_triples(rt.alloc())?);
+    assert_eq!(rt; index.len(), 4);
+    let triples = look_at_four::<Brand, HostRuntime>(&rt, Blank::new(1), &index);
+    assert_eq!(rt;
+        triples,
+        [(2, u64::MAX, 1), (2, u64::MAX, 3), (7, 1, 2), (7, 5, 0)]
+    );
+    Ok(())
+}
+
+fn expect_moves<T: Send>(_value: &T) {}
+
+fn expect_shares<T: Sync>(_value: &T) {}
+
+// A list may be moved to another thread where its items may, and shared where they may.
+fn list_moves<T: Send>(list: &List<T>) {
+    expect_moves(list);
+}
+
+fn list_shares<T: Sync>(list: &List<T>) {
+    expect_shares(list);
+}
+
+#[test]
+fn lists_cross_threads(rt: HostRuntime) -> Result<(), Fail> {
+    let triples = four_triples(rt.alloc())?;
+    list_moves(&triples);
+    list_shares(&triples);
+    let index = Ascending::sorted(triples);
+    expect_moves(&index);
+    expect_shares(&index);
+    Ok(())
 }

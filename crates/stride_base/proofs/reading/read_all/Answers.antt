@@ -1,6 +1,6 @@
-use Rattle.std.proofs.Common.{◌≡◌, ◌++◌, take, length-append, arith}
+use Rattle.std.proofs.Common.{◌≡◌, ◌+◌, ◌++◌, take, length-append, length-take, arith}
 use Rattle.std.proofs.lemmas.List.{length-take-le}
-use Rattle.stride_base.proofs.SourceLemmas.{ReadSoFar-none, ReadSoFar-more, ReadSoFar-all, ReadSoFar-longer}
+use Rattle.stride_base.proofs.SourceLemmas.{ReadSoFar-none, ReadSoFar-more, ReadSoFar-all, ReadSoFar-longer, ReadSoFar-past}
 use Rattle.stride_base.proofs.reading.read_all.Goals as goal
 
 pub loop-list-init : goal.loop-list-init
@@ -16,6 +16,12 @@ pub returns-then-n-left-clause-too_long : goal.returns-then-n-left-clause-too_lo
 returns-then-n-left-clause-too_long g c = λ _.
     let read = c.in_ok-n.ensures in
     ReadSoFar-longer c.loop-list.invariant.0 _ _ _ _ read.taken read.within (omega arith)
+
+pub returns-then-n-left-clause-past : goal.returns-then-n-left-clause-past
+returns-then-n-left-clause-past g c = λ _.
+    let read = c.in_ok-n.ensures in
+    ReadSoFar-past c.loop-list.invariant.0 _ _ _ _ read.taken read.within
+    (omega (arith, c.read.auto.buf, c.min.ensures, length-take (c.min.result + 1) c.deref_mut.result.now))
 
 pub loop-list-preserved : goal.loop-list-preserved
 loop-list-preserved g c =
