@@ -1,131 +1,120 @@
-//! Recordings that are bundled, and run again from their bundles.
-ghost use Rattle.std.specs.Prelude.{◌≤◌, All, IsTrue, length};
-ghost use Rattle.log_format.specs.Bundles.{bundled, IsWithin};
+//! Rows of the commands that read bundles.
 
-use crate::rerun_rows::{WRITING, program_of};
-use crate::show_rows;
-use assembler::print_program;
-use interleavings::{Driven, LogEntry, drive};
-use log_format::{Bundle, decode, encode};
-use sc_machine::End;
-use std::alloc::{AllocError, Global};
-use std::fmt::Write;
+use crate::rows::{Ending, Row, plain_run, play_all};
+use log_format::FormatKind;
+use std::alloc::Global;
+use std::process::Abort;
+use std::sync::Wait;
 use std::test::Fail;
-use stride_base::List;
-use stride_isa::Checked;
-use thread_rerun::rerun;
+use std::thread::Threads;
 
-/// How many instructions each thread may make.
-const FUEL: u32 = 100_000;
+/// One thread that halts, and logged nothing.
+const HALTING: [u8; 34] =
+    *b"STRIDE1\n\x00\x01\x86\xa0\x00\x00\x00\x0cthread\nhalt\n\x00\x01\x00\x00\x00\x00";
 
-/// The recording of a program by an order of atomic steps.
-fn recording(alloc: Global, program: &Checked, order: &[u8]) -> Result<Driven, Fail> {
-    if order.len() > 1_000_000 {
-        return Err("a long order")?;
+/// One thread that wrote 4 into a variable and read it.
+const WRITING: [u8; 88] =
+    *b"STRIDE1\n\x00\x01\x86\xa0\x00\x00\x00\x30var x 0\nthread\npush 4\nwrite x\nread x\nprint\nhalt\n\x00\x01\x00\x00\x00\x02\x02\x00\x00\x00\x01\x01\x00\x00\x00\x00\x00\x00\x00\x04\x00\x00\x00\x01";
+
+/// Three threads after a text that is no program: the first entered a monitor, the second logged nothing, the third read.
+const MEETING: [u8; 52] =
+    *b"STRIDE1\n\x00\x0f\x42\x40\x00\x00\x00\x04\x00ha?\x00\x03\x00\x00\x00\x01\x03\x00\x00\x01\x00\x00\x00\x00\x00\x00\x00\x00\x01\x01\xff\xff\xff\xff\xff\xff\xff\xff\x00\x00\x00\x00";
+
+/// The same as `WRITING`, in version 2.
+const WRITING_TWO: [u8; 67] =
+    *b"STRIDE2\n\xa0\x8d\x06\x30var x 0\nthread\npush 4\nwrite x\nread x\nprint\nhalt\n\x01\x02\x02\x01\x01\x04\x02";
+
+fn row<'a>(words: &'a [&'a str], bytes: &'a [u8], ending: Ending, held: &'a [u8]) -> Row<'a> {
+    Row {
+        run: plain_run(words, bytes, b""),
+        ending,
+        held,
     }
-    Ok(drive(alloc, program, FUEL, 1000, order)?)
 }
 
-/// Whether each log has at most so many entries.
-fn are_short(logs: &[List<LogEntry>], limit: u32) -> bool
-    ensures { IsTrue result → All (λ log. length log.items ≤ limit) logs.now }
-{
-    logs.iter().all(|log| log.len() <= limit as usize)
+fn refused(bytes: &[u8], kind: FormatKind, offset: u64) -> Row<'_> {
+    row(&["show"], bytes, Ending::Bundle(kind, offset), b"")
 }
 
-/// Whether the format can spell the bundle.
-fn can_be_spelled(bundle: &Bundle) -> bool
-    ensures { IsTrue result → IsWithin (bundled bundle.now) }
-{
-    1 <= bundle.fuel
-        && bundle.fuel <= 1_000_000
-        && bundle.text.len() <= 10_000
-        && bundle.logs.len() <= 16
-        && are_short(bundle.logs.as_slice(), bundle.fuel)
-}
-
-/// The bundle of a program with these logs.
-fn bundle_of(alloc: Global, program: &Checked, logs: List<List<LogEntry>>) -> Result<Bundle, Fail> {
-    Ok(Bundle {
-        fuel: FUEL,
-        text: print_program(alloc, program)?,
-        logs,
-    })
-}
-
-fn bytes_of(alloc: Global, bundle: &Bundle) -> Result<List<u8>, Fail> {
-    if !can_be_spelled(bundle) {
-        return Err("a bundle that the format can't spell")?;
+/// Shows what is left of the bundle when it is cut off, at each length, and what has one byte more.
+fn cut_off_everywhere<R: Threads + Wait + Sync + Abort>(
+    rt: &R,
+    alloc: Global,
+    bundle: &[u8],
+) -> Result<(), Fail> {
+    for length in 0..bundle.len() {
+        let row = refused(&bundle[..length], FormatKind::Short, length as u64);
+        play_all(rt, alloc, &[row])?;
     }
-    Ok(encode(alloc, bundle)?)
+    let mut longer = bundle.to_vec(alloc)?;
+    longer.push(0)?;
+    let row = refused(&longer, FormatKind::Long, bundle.len() as u64);
+    play_all(rt, alloc, &[row])
 }
 
 #[test]
-fn a_recording_is_bundled(rt: HostRuntime) -> Result<(), Fail> {
-    let program = program_of(rt.alloc(), WRITING)?;
-    let driven = recording(rt.alloc(), &program, &[0; 8])?;
-    let bundle = bundle_of(rt.alloc(), &program, driven.logs)?;
-    let bytes = bytes_of(rt.alloc(), &bundle)?;
-    assert!(rt; bytes.as_slice() == show_rows::WRITING.as_slice());
-    Ok(())
-}
-
-/// Sixteen threads, each of which writes two hundred values of its own into one variable, reads it and prints what it read.
-fn writers(alloc: Global) -> Result<String, AllocError> {
-    let mut text = String::from_str(alloc, "var x\n")?;
-    for thread in 0..16 {
-        writeln!(
-            text,
-            "thread\npush 200\nset 0\nagain:\nget 0\npush 16\nmul\npush {thread}\nadd\nwrite x\nget 0\npush 1\nsub\nset 0\nget 0\njnz again\nread x\nprint\nhalt"
-        )?;
-    }
-    Ok(text)
-}
-
-/// Sixteen threads in turn, so often.
-fn in_turn(alloc: Global, rounds: u32) -> Result<Vec<u8>, AllocError> {
-    let mut order = Vec::new(alloc);
-    for _ in 0..rounds {
-        for thread in 0..16 {
-            order.push(thread)?;
-        }
-    }
-    Ok(order)
-}
-
-/// Whether the lists are the same, one by one.
-fn are_alike<T: PartialEq>(left: &[List<T>], right: &[List<T>]) -> bool {
-    left.len() == right.len()
-        && left
-            .iter()
-            .zip(right)
-            .all(|(one, other)| one.as_slice() == other.as_slice())
+fn bundles_are_shown_and_upgraded(rt: HostRuntime) -> Result<(), Fail> {
+    let shown: &[u8] = b"threads 1\nfuel 100000\nlogs\n0 write 1\n0 read 4 1\ntext\nvar x 0\nthread\npush 4\nwrite x\nread x\nprint\nhalt\n";
+    let rows = [
+        row(
+            &["show"],
+            &HALTING,
+            Ending::Done,
+            b"threads 1\nfuel 100000\nlogs\ntext\nthread\nhalt\n",
+        ),
+        row(&["show"], &WRITING, Ending::Done, shown),
+        row(&["show"], &WRITING_TWO, Ending::Done, shown),
+        row(
+            &["show"],
+            &MEETING,
+            Ending::Done,
+            b"threads 3\nfuel 1000000\nlogs\n0 enter 256\n2 read 18446744073709551615 0\ntext\n\x00ha?",
+        ),
+        row(&["upgrade"], &WRITING, Ending::Done, &WRITING_TWO),
+        row(&["upgrade"], &WRITING_TWO, Ending::Done, &WRITING_TWO),
+    ];
+    play_all(&rt, rt.alloc(), &rows)
 }
 
 #[test]
-fn many_entries_are_bundled_and_run_again(rt: HostRuntime) -> Result<(), Fail> {
-    let alloc = rt.alloc();
-    let program = program_of(alloc, writers(alloc)?.as_bytes())?;
-    let driven = recording(alloc, &program, &in_turn(alloc, 20_000)?)?;
-    assert_eq!(rt; driven.logs.len(), 16);
-    for log in driven.logs.as_slice() {
-        assert_eq!(rt; log.len(), 201);
-    }
-    assert!(rt; driven.ends.as_slice() == [End::Halted; 16].as_slice());
-    // The turn of the variable goes round: the last of 3200 writes is that of 16 and 15 by the last thread, which reads it.
-    let last = driven.logs.get(15).as_slice().last().copied();
-    let wanted = LogEntry::Read {
-        value: 31,
-        bound: 3200,
-    };
-    assert_eq!(rt; last, Some(wanted));
-    let bundle = bundle_of(alloc, &program, driven.logs)?;
-    let bytes = bytes_of(alloc, &bundle)?;
-    let read_back = decode(alloc, bytes.as_slice())?;
-    assert!(rt; are_alike(read_back.logs.as_slice(), bundle.logs.as_slice()));
-    let same_program = program_of(alloc, read_back.text.as_slice())?;
-    let again = rerun(alloc, &same_program, FUEL, &read_back.logs)?;
-    assert!(rt; are_alike(again.outputs.as_slice(), driven.outputs.as_slice()));
-    assert!(rt; again.ends.as_slice() == driven.ends.as_slice());
-    Ok(())
+fn what_is_cut_off_is_short(rt: HostRuntime) -> Result<(), Fail> {
+    cut_off_everywhere(&rt, rt.alloc(), &HALTING)?;
+    cut_off_everywhere(&rt, rt.alloc(), &WRITING)?;
+    cut_off_everywhere(&rt, rt.alloc(), &WRITING_TWO)
+}
+
+#[test]
+fn the_first_wrong_byte_is_named(rt: HostRuntime) -> Result<(), Fail> {
+    let mut version = HALTING;
+    version[6] = 0x32;
+    let mut magic = HALTING;
+    magic[6] = 0x33;
+    let mut fuel = HALTING;
+    fuel[8..12].fill(0);
+    let mut threads = HALTING;
+    threads[29] = 17;
+    let mut tag = WRITING;
+    tag[70] = 4;
+    let mut bound = WRITING_TWO;
+    bound[66] = 1;
+    let mut form = WRITING_TWO;
+    form[65] = 0x84;
+    form[66] = 0;
+    let rows = [
+        refused(&version, FormatKind::BadCount, 8),
+        refused(&magic, FormatKind::BadMagic, 6),
+        refused(b"SX", FormatKind::BadMagic, 1),
+        refused(&fuel, FormatKind::BadCount, 8),
+        refused(&threads, FormatKind::BadCount, 28),
+        refused(&tag, FormatKind::BadTag, 70),
+        refused(&bound, FormatKind::BadCount, 66),
+        refused(&form, FormatKind::BadForm, 65),
+        row(
+            &["upgrade"],
+            &tag,
+            Ending::Bundle(FormatKind::BadTag, 70),
+            b"",
+        ),
+    ];
+    play_all(&rt, rt.alloc(), &rows)
 }

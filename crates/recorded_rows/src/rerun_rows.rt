@@ -24,12 +24,20 @@ const fn write(number: u32) -> LogEntry {
 }
 
 const fn read(value: u64, bound: u32) -> LogEntry {
-    LogEntry::Read { value, bound }
+    LogEntry::Read { bound, value }
+}
+
+const fn update(old: u64, number: u32) -> LogEntry {
+    LogEntry::Update { number, old }
 }
 
 const fn enter(turn: u32) -> LogEntry {
     LogEntry::Enter { turn }
 }
+
+/// One thread adds 5 to a variable and prints what it met, then puts 7 in place of 8 there and prints what it met.
+const UPDATING: &[u8] =
+    b"var x 3\nthread\npush 5\naddto x\nprint\npush 8\npush 7\ncas x\nprint\nhalt\n";
 
 /// The program of a text.
 pub(crate) fn program_of(alloc: Global, text: &[u8]) -> Result<Checked, Fail> {
@@ -74,7 +82,7 @@ fn is_one(rerun: &Rerun, events: u32, output: &[u8], end: End) -> bool {
 
 #[test]
 fn threads_run_again_as_far_as_their_logs(rt: HostRuntime) -> Result<(), Fail> {
-    let rows: [(&[u8], u32, &[LogEntry], u32, &[u8], End); 6] = [
+    let rows: [(&[u8], u32, &[LogEntry], u32, &[u8], End); 8] = [
         (
             WRITING,
             100,
@@ -103,7 +111,23 @@ fn threads_run_again_as_far_as_their_logs(rt: HostRuntime) -> Result<(), Fail> {
                 pc: 5,
             },
         ),
-        // The exit behind the entry is made without an entry of the log.
+        (
+            UPDATING,
+            100,
+            &[update(3, 1), update(8, 2)],
+            2,
+            b"3\n8\n",
+            End::Halted,
+        ),
+        (
+            UPDATING,
+            100,
+            &[update(9, 4)],
+            1,
+            b"9\n",
+            End::Stopped { pc: 5 },
+        ),
+        // The exit after the entry is made without an entry of the log.
         (TRAPPING, 100, &[enter(1)], 2, b"", End::Stopped { pc: 2 }),
         (TRAPPING, 1, &[enter(1)], 1, b"", End::OutOfSteps),
     ];
@@ -114,8 +138,8 @@ fn threads_run_again_as_far_as_their_logs(rt: HostRuntime) -> Result<(), Fail> {
     Ok(())
 }
 
-/// What is told of two threads and logs that part.
-fn publish_parted(alloc: Global, logs: &[&[LogEntry]]) -> Result<Option<RerunError>, Fail> {
+/// What is told of two threads and logs that diverge.
+fn publish_diverges(alloc: Global, logs: &[&[LogEntry]]) -> Result<Option<RerunError>, Fail> {
     Ok(run_again(alloc, PUBLISH, 100, logs)?.err())
 }
 
@@ -124,18 +148,21 @@ const fn at(thread: u32, place: u32) -> Option<RerunError> {
 }
 
 #[test]
-fn a_log_that_parts_from_its_thread_is_named(rt: HostRuntime) -> Result<(), Fail> {
-    let another_kind = publish_parted(rt.alloc(), &[&[write(1)], &[write(1)]])?;
+fn a_log_that_diverges_from_its_thread_is_named(rt: HostRuntime) -> Result<(), Fail> {
+    let another_kind = publish_diverges(rt.alloc(), &[&[write(1)], &[write(1)]])?;
     assert_eq!(rt; another_kind, at(0, 0));
-    let one_left = publish_parted(rt.alloc(), &[&[read(0, 0), read(0, 0)], &[write(1)]])?;
+    let one_left = publish_diverges(rt.alloc(), &[&[read(0, 0), read(0, 0)], &[write(1)]])?;
     assert_eq!(rt; one_left, at(0, 1));
-    // The lesser of two threads is named, though it parts at a later place.
-    let both = publish_parted(rt.alloc(), &[&[read(0, 0), read(0, 0)], &[read(0, 0)]])?;
+    // The lesser of two threads is named, though it diverges at a later place.
+    let both = publish_diverges(rt.alloc(), &[&[read(0, 0), read(0, 0)], &[read(0, 0)]])?;
     assert_eq!(rt; both, at(0, 1));
-    let log_more = publish_parted(rt.alloc(), &[&[read(0, 1)], &[write(1)], &[]])?;
+    let log_more = publish_diverges(rt.alloc(), &[&[read(0, 1)], &[write(1)], &[]])?;
     assert_eq!(rt; log_more, at(2, 0));
-    let log_less = publish_parted(rt.alloc(), &[&[read(0, 1)]])?;
+    let log_less = publish_diverges(rt.alloc(), &[&[read(0, 1)]])?;
     assert_eq!(rt; log_less, at(1, 0));
+    let swapped = [write(1), read(3, 1)];
+    let mistaken = run_again(rt.alloc(), UPDATING, 100, &[&swapped])?.err();
+    assert_eq!(rt; mistaken, at(0, 0));
     let rows: [(u32, &[LogEntry]); 2] = [
         // The exit in between uses no entry.
         (100, &[enter(1), write(9)]),
@@ -143,8 +170,8 @@ fn a_log_that_parts_from_its_thread_is_named(rt: HostRuntime) -> Result<(), Fail
         (1, &[enter(1), enter(2)]),
     ];
     for (fuel, log) in rows {
-        let parted = run_again(rt.alloc(), TRAPPING, fuel, &[log])?.err();
-        assert_eq!(rt; parted, at(0, 1), "{log:?}");
+        let diverged = run_again(rt.alloc(), TRAPPING, fuel, &[log])?.err();
+        assert_eq!(rt; diverged, at(0, 1), "{log:?}");
     }
     Ok(())
 }
@@ -161,10 +188,19 @@ fn record_and_run_again(alloc: Global, text: &[u8], order: &[u8]) -> Result<Reru
 
 #[test]
 fn recorded_threads_run_again(rt: HostRuntime) -> Result<(), Fail> {
-    let rows: [(&[u8], &[u8], u32, &[u8], End); 4] = [
+    let rows: [(&[u8], &[u8], u32, &[u8], End); 6] = [
         (WRITING, &[0, 0, 0, 0, 0, 0, 0, 0], 2, b"4\n", End::Halted),
-        (WRITING, &[0], 1, b"", End::Stopped { pc: 2 }),
+        // A writer that has claimed its number finishes after the order, and one that has only seen it does not.
+        (WRITING, &[0, 0], 1, b"", End::Stopped { pc: 2 }),
+        (WRITING, &[0], 0, b"", End::Stopped { pc: 1 }),
         (WRITING, &[], 0, b"", End::Stopped { pc: 1 }),
+        (
+            UPDATING,
+            &[0, 0, 0, 0, 0, 0, 0],
+            2,
+            b"3\n8\n",
+            End::Halted,
+        ),
         (
             TRAPPING,
             &[0, 0, 0, 0, 0],
@@ -180,7 +216,7 @@ fn recorded_threads_run_again(rt: HostRuntime) -> Result<(), Fail> {
         let again = record_and_run_again(rt.alloc(), text, order)?;
         assert!(rt; is_one(&again, events, output, end), "{order:?}");
     }
-    let reader = record_and_run_again(rt.alloc(), PUBLISH, &[1, 1, 1, 1, 0, 0, 1, 0, 1])?;
+    let reader = record_and_run_again(rt.alloc(), PUBLISH, &[1, 1, 1, 0, 0, 1, 0])?;
     let [printed, _] = reader.outputs.as_slice() else {
         return Err("not two outputs")?;
     };

@@ -2,9 +2,7 @@
 ghost use Rattle.std.specs.Prelude.{◌<◌, ◌≡◌, length};
 
 use crate::plain_machine::Played;
-use crate::playing_rows::{
-    BUFFER, CHECK_THEN_ACT, DEADLOCK, LOST_UPDATE, PUBLICATION, play_alike, played_plainly,
-};
+use crate::playing_rows::{play_alike, played_plainly};
 use std::alloc::{AllocError, Global};
 use std::fmt::Write;
 use std::process::Abort;
@@ -77,19 +75,8 @@ fn play_drawn_order<R: Threads + Wait + Sync + Abort>(
     Ok(())
 }
 
-#[test]
-fn examples_by_drawn_orders(rt: HostRuntime) -> Result<(), Fail> {
-    let mut state = 1;
-    for text in [BUFFER, CHECK_THEN_ACT, DEADLOCK, LOST_UPDATE, PUBLICATION] {
-        for _ in 0..4 {
-            play_drawn_order(&rt, rt.alloc(), text, &mut state)?;
-        }
-    }
-    Ok(())
-}
-
 /// Lines of a thread, each with how many words it takes and leaves.
-const LINES: [(&str, u64, u64); 33] = [
+const LINES: [(&str, u64, u64); 38] = [
     ("push 0", 0, 1),
     ("push 1", 0, 1),
     ("push 77", 0, 1),
@@ -113,6 +100,11 @@ const LINES: [(&str, u64, u64); 33] = [
     ("push 3\nrem", 1, 1),
     ("readat a", 1, 1),
     ("writeat a", 2, 0),
+    ("xchg x", 1, 1),
+    ("addto x", 1, 1),
+    ("addto y", 1, 1),
+    ("push 1\npush 2\ncas x", 0, 1),
+    ("cas y", 2, 1),
     ("swap", 2, 2),
     ("add", 2, 1),
     ("sub", 2, 1),
@@ -126,7 +118,7 @@ const LINES: [(&str, u64, u64); 33] = [
 ];
 
 fn drawn_line(state: &mut u64) -> (&'static str, u64, u64) {
-    let at = draw(state, 33) as usize;
+    let at = draw(state, 38) as usize;
     LINES.get(at).copied().unwrap_or(("halt", 0, 0))
 }
 
@@ -195,7 +187,7 @@ fn drawn_program(alloc: Global, state: &mut u64) -> Result<String, AllocError> {
 #[test]
 fn drawn_programs_by_drawn_orders(rt: HostRuntime) -> Result<(), Fail> {
     let mut state = 2;
-    for _ in 0..30 {
+    for _ in 0..50 {
         let text = drawn_program(rt.alloc(), &mut state)?;
         play_drawn_order(&rt, rt.alloc(), text.as_str(), &mut state)?;
     }

@@ -240,6 +240,23 @@ impl Shared {
                 let (index, word) = (thread.pop(), thread.pop());
                 self.set_cell(decl, index, word);
             }
+            Op::Xchg(decl) => {
+                let word = thread.pop();
+                thread.stack.push(self.cell(decl, 0))?;
+                self.set_cell(decl, 0, word);
+            }
+            Op::AddTo(decl) => {
+                let (word, old) = (thread.pop(), self.cell(decl, 0));
+                thread.stack.push(old)?;
+                self.set_cell(decl, 0, old.wrapping_add(word));
+            }
+            Op::Cas(decl) => {
+                let (new, expected, old) = (thread.pop(), thread.pop(), self.cell(decl, 0));
+                thread.stack.push(old)?;
+                if old == expected {
+                    self.set_cell(decl, 0, new);
+                }
+            }
             Op::Enter(monitor) => self.set_holder(monitor, Some(number)),
             Op::Exit(monitor) => self.set_holder(monitor, None),
             _ => return thread.compute(op),
@@ -252,7 +269,15 @@ impl Shared {
 fn is_shared(op: Op) -> bool {
     matches!(
         op,
-        Op::Read(_) | Op::Write(_) | Op::ReadAt(_) | Op::WriteAt(_) | Op::Enter(_) | Op::Exit(_)
+        Op::Read(_)
+            | Op::Write(_)
+            | Op::ReadAt(_)
+            | Op::WriteAt(_)
+            | Op::Xchg(_)
+            | Op::AddTo(_)
+            | Op::Cas(_)
+            | Op::Enter(_)
+            | Op::Exit(_)
     )
 }
 

@@ -1,7 +1,7 @@
 //! Programs that `follow` and the plain machine play alike.
 
+use crate::following::followed;
 use crate::plain_machine::{Played, play};
-use crate::rows::{Ending, outcome_of, plain_run};
 use assembler::{assemble, read_order};
 use std::alloc::{AllocError, Global};
 use std::fmt::Write;
@@ -10,22 +10,6 @@ use std::sync::Wait;
 use std::test::Fail;
 use std::thread::Threads;
 use stride_isa::check;
-
-// The programs in `examples`.
-pub(crate) const BUFFER: &str =
-    "# A producer puts the numbers 1 to 3 into a buffer of two cells; a consumer takes three and prints them.\n# Number n stands in cell n mod 2. Both threads change the count of numbers in the buffer, and no monitor\n# guards it, which is wrong: put `enter` and `exit` of a monitor round each look at it and each change.\narray buffer 2\nvar count\n\nthread            # the producer; local 0 is the next number\npush 1\nset 0\nput:\nread count\npush 2\nlt\njz put            # full\nget 0\nget 0\npush 2\nrem\nwriteat buffer\nread count\npush 1\nadd\nwrite count\nget 0\npush 1\nadd\nset 0\nget 0\npush 4\nlt\njnz put\nhalt\n\nthread            # the consumer; local 0 is the number that it expects\npush 1\nset 0\ntake:\nread count\njz take           # empty\nget 0\npush 2\nrem\nreadat buffer\nprint\nread count\npush 1\nsub\nwrite count\nget 0\npush 1\nadd\nset 0\nget 0\npush 4\nlt\njnz take\nhalt\n";
-
-pub(crate) const CHECK_THEN_ACT: &str =
-    "# Each thread waits until nobody is busy, and only then says that it is. This looks like mutual exclusion, but both\n# can look before either has said so. Each prints how many threads are inside with it.\nvar busy\nvar inside\n\nthread\nwait:\nread busy\njnz wait\npush 1\nwrite busy\nread inside\npush 1\nadd\nwrite inside\nread inside\nprint\nread inside\npush 1\nsub\nwrite inside\npush 0\nwrite busy\nhalt\n\nthread\nwait:\nread busy\njnz wait\npush 1\nwrite busy\nread inside\npush 1\nadd\nwrite inside\nread inside\nprint\nread inside\npush 1\nsub\nwrite inside\npush 0\nwrite busy\nhalt\n";
-
-pub(crate) const DEADLOCK: &str =
-    "# Two threads take two monitors, each in another order.\nmonitor left\nmonitor right\n\nthread\nenter left\nenter right\npush 1\nprint\nexit right\nexit left\nhalt\n\nthread\nenter right\nenter left\npush 2\nprint\nexit left\nexit right\nhalt\n";
-
-pub(crate) const LOST_UPDATE: &str =
-    "# Two threads add 1 to a counter that no monitor guards.\n# Thread 1 prints what it finds at the end.\nvar counter\n\nthread            # thread 0\nread counter\npush 1\nadd\nwrite counter\nhalt\n\nthread            # thread 1\nread counter\npush 1\nadd\nwrite counter\nread counter\nprint\nhalt\n";
-
-pub(crate) const PUBLICATION: &str =
-    "# Thread 0 raises a flag for thread 1, which waits for it and then reads the data.\n# The flag is raised before the data is written, which is wrong: swap the two writes.\nvar data\nvar ready\n\nthread\npush 1\nwrite ready\npush 42\nwrite data\nhalt\n\nthread\nwait:\nread ready\njz wait\nread data\nprint\nhalt\n";
 
 /// How many instructions a thread of `follow` may make.
 const FUEL: u32 = 100_000;
@@ -50,41 +34,12 @@ pub(crate) fn play_alike<R: Threads + Wait + Sync + Abort>(
     order: &str,
 ) -> Result<Option<u32>, Fail> {
     let input = format!(in alloc; "{text}\norder\n{order}")?;
-    let outcome = outcome_of(rt, alloc, &plain_run(&["follow"], input.as_bytes(), b""))?;
-    match played_plainly(rt, alloc, text, order)? {
-        Played::Report(report) => {
-            assert_eq!(rt; outcome.ending, Ending::Done, "{input}");
-            assert!(rt; outcome.held.as_slice() == report.as_bytes(), "{input}");
-            Ok(None)
-        }
-        Played::Refused(place) => {
-            assert_eq!(rt; outcome.ending, Ending::NotEnabled(place), "{input}");
-            assert!(rt; outcome.held.is_empty(), "{input}");
-            Ok(Some(place))
-        }
+    let played = followed(rt, alloc, input.as_bytes())?;
+    assert_eq!(rt; played, played_plainly(rt, alloc, text, order)?, "{input}");
+    match played {
+        Played::Report(_) => Ok(None),
+        Played::Refused(place) => Ok(Some(place)),
     }
-}
-
-#[test]
-fn examples_are_played_alike(rt: HostRuntime) -> Result<(), Fail> {
-    let rows = [
-        (BUFFER, "0*8 0 1*8 1 0*4 1*4"),
-        (BUFFER, "0*4 0*3 1*4 0 1*8 0*4"),
-        (CHECK_THEN_ACT, "0*8 1*8"),
-        (CHECK_THEN_ACT, "0 1 0*3 1*3 0 1 0*3 1*3"),
-        (DEADLOCK, "0*4 1*4"),
-        (DEADLOCK, "0 1"),
-        (DEADLOCK, "0 1 1"),
-        (LOST_UPDATE, "0*2 1*3"),
-        (LOST_UPDATE, "0 1 0 1 1"),
-        (PUBLICATION, "1 0 0 1*2"),
-        (PUBLICATION, "0 1*2 0"),
-    ];
-    for (text, order) in rows {
-        play_alike(&rt, rt.alloc(), text, order)?;
-        play_alike(&rt, rt.alloc(), text, "")?;
-    }
-    Ok(())
 }
 
 const OPERANDS: [u64; 8] = [
@@ -142,6 +97,10 @@ const ROW: &str =
 const TRAPS: &str =
     "array a 2\nmonitor m\nmonitor n\nthread\npush 2\nreadat a\nprint\nhalt\nthread\nenter m\nenter m\nhalt\nthread\nexit m\nhalt\nthread\nenter n\nhalt\nthread\npush 1\npush 0\nrem\nhalt\nthread\nenter n\nexit n\nexit n\nhalt\nthread\nenter m\nhalt\n";
 
+/// Updates of one variable by two threads, each of which prints what it met.
+const UPDATES: &str =
+    "var x 5\nvar y\nthread\npush 5\npush 9\ncas x\nprint\npush 18446744073709551615\naddto x\nprint\nhalt\nthread\npush 7\nxchg x\nprint\npush 5\npush 6\ncas x\nprint\nread x\nxchg y\nprint\nread y\nprint\nhalt\n";
+
 /// A turn and two local instructions a round.
 const ROUNDS: &str = "var x\nthread\nagain:\nread x\ndrop\njump again\nthread\nhalt\n";
 
@@ -164,6 +123,12 @@ fn traps_and_last_steps_are_played_alike(rt: HostRuntime) -> Result<(), Fail> {
         (TRAPS, "1 6"),
         (TRAPS, "0"),
         (TRAPS, "7"),
+        (UPDATES, ""),
+        (UPDATES, "0*2 1*5"),
+        (UPDATES, "1*5 0*2"),
+        (UPDATES, "1 0*2 1*4"),
+        (UPDATES, "0 1*2 0 1*3"),
+        (UPDATES, "0*3"),
         ("", ""),
         ("", "0"),
         ("thread\nagain:\njump again\n", ""),

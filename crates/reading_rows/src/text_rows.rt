@@ -26,7 +26,7 @@ fn judge_alike(rt: &impl Abort, alloc: Global, text: &[u8]) -> Result<Option<Asm
 
 /// A text with a line of each form.
 const WHOLE: &[u8] =
-    b"var x 1\nvar y\narray a 3 7\narray b 2\nmonitor m\nmonitor n\n# threads\nthread\nstart:\npush 2\nset 15\nread x\njz end\nget 15\nwriteat a\njump start\nend:\nenter m\nexit m\nhalt\n\nthread\nend:\nreadat b\nprint\njnz end\nwrite y\nenter n\nhalt\n";
+    b"var x 1\nvar y\narray a 3 7\narray b 2\nmonitor m\nmonitor n\n# threads\nthread\nstart:\npush 2\nset 15\nread x\njz end\nget 15\nwriteat a\njump start\nend:\nenter m\nexit m\nhalt\n\nthread\nend:\nreadat b\nprint\njnz end\nwrite y\nenter n\naddto y\nhalt\n";
 
 /// Words that stand where others should, each in place of each word of the whole text.
 const WORDS: [&[u8]; 22] = [
@@ -101,7 +101,7 @@ fn texts_are_judged_alike(rt: HostRuntime) -> Result<(), Fail> {
 enum Change {
     Left,
     Doubled,
-    /// Behind the next.
+    /// After the next.
     Later,
 }
 

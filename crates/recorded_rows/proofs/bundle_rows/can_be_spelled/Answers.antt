@@ -3,7 +3,7 @@ use Rattle.std.proofs.lemmas.List.{length-map}
 use Rattle.std.proofs.lemmas.List.Elements.{All-map, recursion_from_All}
 use Rattle.interleavings.specs.declared.event.LogEntry.{LogEntry}
 use Rattle.log_format.specs.Bundles.{lists_of}
-use Rattle.worked_rows.proofs.bundle_rows.can_be_spelled.Goals as goal
+use Rattle.recorded_rows.proofs.bundle_rows.can_be_spelled.Goals as goal
 
 pub returns-then-len-le16 : goal.returns-then-len-le16
 returns-then-len-le16 c short = record {

@@ -11,6 +11,11 @@ const PLAIN: [&[u8]; 19] = [
     b"xor", b"shl", b"shr", b"eq", b"lt", b"not", b"print", b"halt",
 ];
 
+/// Instructions that name a variable or an array.
+const ACCESSES: [&[u8]; 7] = [
+    b"read", b"write", b"readat", b"writeat", b"xchg", b"addto", b"cas",
+];
+
 /// What a line says, by its first word and the number of its words.
 #[derive(Clone, Copy, PartialEq, Eq)]
 enum Form {
@@ -149,7 +154,7 @@ fn form_begun(word: &[u8]) -> Form {
         Form::Local
     } else if is_one_of(&[b"jump", b"jz", b"jnz"], word) {
         Form::Jump
-    } else if is_one_of(&[b"read", b"write", b"readat", b"writeat"], word) {
+    } else if is_one_of(&ACCESSES, word) {
         Form::Access
     } else if is_one_of(&[b"enter", b"exit"], word) {
         Form::Turn
@@ -204,7 +209,7 @@ fn lines_of<'a>(alloc: Global, text: &'a [u8]) -> Result<Vec<Line<'a>>, AllocErr
     Ok(lines)
 }
 
-// In what follows a line stands between the lines before it and those behind it, and all lines before it are right.
+// In what follows a line stands between the lines before it and those after it, and all lines before it are right.
 
 fn has_thread(before: &[Line<'_>]) -> bool {
     before.iter().any(|line| line.form == Form::Thread)
@@ -250,9 +255,9 @@ fn stands_before(before: &[Line<'_>], name: &[u8]) -> bool {
     false
 }
 
-/// Whether a line behind, in the same thread, is the label.
-fn stands_behind(behind: &[Line<'_>], name: &[u8]) -> bool {
-    for line in behind {
+/// Whether a line after, in the same thread, is the label.
+fn stands_after(after: &[Line<'_>], name: &[u8]) -> bool {
+    for line in after {
         if line.form == Form::Thread {
             return false;
         }
@@ -273,10 +278,10 @@ fn has_monitor(before: &[Line<'_>], name: &[u8]) -> bool {
         .any(|line| line.form == Form::Monitor && line.name() == name)
 }
 
-fn is_unknown(before: &[Line<'_>], line: &Line<'_>, behind: &[Line<'_>]) -> bool {
+fn is_unknown(before: &[Line<'_>], line: &Line<'_>, after: &[Line<'_>]) -> bool {
     let name = line.name();
     match line.form {
-        Form::Jump => !stands_before(before, name) && !stands_behind(behind, name),
+        Form::Jump => !stands_before(before, name) && !stands_after(after, name),
         Form::Access => !has_cells(before, name),
         Form::Turn => !has_monitor(before, name),
         _ => false,
@@ -318,12 +323,12 @@ fn is_too_many(before: &[Line<'_>], line: &Line<'_>) -> bool {
     }
 }
 
-fn fault_of(before: &[Line<'_>], line: &Line<'_>, behind: &[Line<'_>]) -> Option<AsmKind> {
+fn fault_of(before: &[Line<'_>], line: &Line<'_>, after: &[Line<'_>]) -> Option<AsmKind> {
     if is_bad_line(before, line) {
         Some(AsmKind::BadLine)
     } else if is_bad_number(line) {
         Some(AsmKind::BadNumber)
-    } else if is_unknown(before, line, behind) {
+    } else if is_unknown(before, line, after) {
         Some(AsmKind::UnknownName)
     } else if is_twice(before, line) {
         Some(AsmKind::Twice)
@@ -342,10 +347,10 @@ pub(crate) fn first_refusal(
     let lines = lines_of(alloc, text)?;
     for at in 0..lines.len() {
         let (before, rest) = lines.split_at(at);
-        let Some((line, behind)) = rest.split_first() else {
+        let Some((line, after)) = rest.split_first() else {
             return Ok(None);
         };
-        if let Some(kind) = fault_of(before, line, behind) {
+        if let Some(kind) = fault_of(before, line, after) {
             let number = u32::try_from(at).unwrap_or(u32::MAX).saturating_add(1);
             return Ok(Some((kind, number)));
         }

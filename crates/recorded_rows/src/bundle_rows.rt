@@ -1,0 +1,134 @@
+//! Recordings that are bundled, and run again from their bundles.
+ghost use Rattle.std.specs.Prelude.{◌≤◌, All, IsTrue, length};
+ghost use Rattle.log_format.specs.Bundles.{bundled, IsWithin};
+
+use crate::rerun_rows::{WRITING, program_of};
+use assembler::print_program;
+use interleavings::{Driven, LogEntry, drive};
+use log_format::{Bundle, decode, encode};
+use sc_machine::End;
+use std::alloc::{AllocError, Global};
+use std::fmt::Write;
+use std::test::Fail;
+use stride_base::List;
+use stride_isa::Checked;
+use thread_rerun::rerun;
+
+/// The bundle of the program that writes 4 and reads it, with its logs.
+const WRITTEN: [u8; 67] =
+    *b"STRIDE2\n\xa0\x8d\x06\x30var x 0\nthread\npush 4\nwrite x\nread x\nprint\nhalt\n\x01\x02\x02\x01\x01\x04\x02";
+
+/// How many instructions each thread may make.
+const FUEL: u32 = 100_000;
+
+/// The recording of a program by an order of atomic steps.
+fn recording(alloc: Global, program: &Checked, order: &[u8]) -> Result<Driven, Fail> {
+    if order.len() > 1_000_000 {
+        return Err("a long order")?;
+    }
+    Ok(drive(alloc, program, FUEL, 1000, order)?)
+}
+
+/// Whether each log has at most so many entries.
+fn are_short(logs: &[List<LogEntry>], limit: u32) -> bool
+    ensures { IsTrue result → All (λ log. length log.items ≤ limit) logs.now }
+{
+    logs.iter().all(|log| log.len() <= limit as usize)
+}
+
+/// Whether the format can spell the bundle.
+fn can_be_spelled(bundle: &Bundle) -> bool
+    ensures { IsTrue result → IsWithin (bundled bundle.now) }
+{
+    1 <= bundle.fuel
+        && bundle.fuel <= 1_000_000
+        && bundle.text.len() <= 10_000
+        && bundle.logs.len() <= 16
+        && are_short(bundle.logs.as_slice(), bundle.fuel)
+}
+
+/// The bundle of a program with these logs.
+fn bundle_of(alloc: Global, program: &Checked, logs: List<List<LogEntry>>) -> Result<Bundle, Fail> {
+    Ok(Bundle {
+        fuel: FUEL,
+        text: print_program(alloc, program)?,
+        logs,
+    })
+}
+
+fn bytes_of(alloc: Global, bundle: &Bundle) -> Result<List<u8>, Fail> {
+    if !can_be_spelled(bundle) {
+        return Err("a bundle that the format can't spell")?;
+    }
+    Ok(encode(alloc, bundle)?)
+}
+
+#[test]
+fn a_recording_is_bundled(rt: HostRuntime) -> Result<(), Fail> {
+    let program = program_of(rt.alloc(), WRITING)?;
+    let driven = recording(rt.alloc(), &program, &[0; 8])?;
+    let bundle = bundle_of(rt.alloc(), &program, driven.logs)?;
+    let bytes = bytes_of(rt.alloc(), &bundle)?;
+    assert!(rt; bytes.as_slice() == WRITTEN.as_slice());
+    Ok(())
+}
+
+/// Sixteen threads, each of which writes two hundred values of its own into one variable, reads it and prints what it read.
+fn writers(alloc: Global) -> Result<String, AllocError> {
+    let mut text = String::from_str(alloc, "var x\n")?;
+    for thread in 0..16 {
+        writeln!(
+            text,
+            "thread\npush 200\nset 0\nagain:\nget 0\npush 16\nmul\npush {thread}\nadd\nwrite x\nget 0\npush 1\nsub\nset 0\nget 0\njnz again\nread x\nprint\nhalt"
+        )?;
+    }
+    Ok(text)
+}
+
+/// Sixteen threads in turn, so often.
+fn in_turn(alloc: Global, rounds: u32) -> Result<Vec<u8>, AllocError> {
+    let mut order = Vec::new(alloc);
+    for _ in 0..rounds {
+        for thread in 0..16 {
+            order.push(thread)?;
+        }
+    }
+    Ok(order)
+}
+
+/// Whether the lists are the same, one by one.
+fn are_alike<T: PartialEq>(left: &[List<T>], right: &[List<T>]) -> bool {
+    left.len() == right.len()
+        && left
+            .iter()
+            .zip(right)
+            .all(|(one, other)| one.as_slice() == other.as_slice())
+}
+
+#[test]
+fn many_entries_are_bundled_and_run_again(rt: HostRuntime) -> Result<(), Fail> {
+    let alloc = rt.alloc();
+    let program = program_of(alloc, writers(alloc)?.as_bytes())?;
+    let driven = recording(alloc, &program, &in_turn(alloc, 20_000)?)?;
+    assert_eq!(rt; driven.logs.len(), 16);
+    for log in driven.logs.as_slice() {
+        assert_eq!(rt; log.len(), 201);
+    }
+    assert!(rt; driven.ends.as_slice() == [End::Halted; 16].as_slice());
+    // The writes go round: the last of 3200 is that of 16 and 15 by the last thread, which reads it.
+    let last = driven.logs.get(15).as_slice().last().copied();
+    let wanted = LogEntry::Read {
+        bound: 3200,
+        value: 31,
+    };
+    assert_eq!(rt; last, Some(wanted));
+    let bundle = bundle_of(alloc, &program, driven.logs)?;
+    let bytes = bytes_of(alloc, &bundle)?;
+    let read_back = decode(alloc, bytes.as_slice())?;
+    assert!(rt; are_alike(read_back.logs.as_slice(), bundle.logs.as_slice()));
+    let same_program = program_of(alloc, read_back.text.as_slice())?;
+    let again = rerun(alloc, &same_program, FUEL, &read_back.logs)?;
+    assert!(rt; are_alike(again.outputs.as_slice(), driven.outputs.as_slice()));
+    assert!(rt; again.ends.as_slice() == driven.ends.as_slice());
+    Ok(())
+}
