@@ -74,7 +74,7 @@ impl Traces {
     pub fn new(alloc: Global, program: &Checked) -> Result<Traces, NoMemory>
         ensures { IfOk result (λ traces. traces ≡ none program.now) }
     {
-        program.is_sound();
+        program.facts();
         Ok(Traces {
             events: empty_lists(alloc, program.threads())?,
             starts: starting_values(alloc, program)?,

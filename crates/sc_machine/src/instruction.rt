@@ -32,7 +32,7 @@ macro_rules! with_operand {
     ($variant:ident () $value:ident) => {
         Op::$variant
     };
-    ($variant:ident (_) $value:ident) => {
+    ($variant:ident ($operand:ident) $value:ident) => {
         Op::$variant($value)
     };
 }

@@ -3,3 +3,4 @@ pub mod KeptLemmas
 pub mod MarksLemmas
 pub mod StrayingLemmas
 pub mod TableLemmas
+pub mod VerdictLemmas

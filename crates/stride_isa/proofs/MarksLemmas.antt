@@ -1,14 +1,15 @@
 -- The table of reached pairs: what visits leave of it, and what it is when no pair waits.
-use Rattle.std.proofs.Common.{◌≡◌, ◌≢◌, ℕ, ◌+◌, ◌*◌, ◌<◌, ◌≤◌, ◌∙◌, ◌⊎◌, Bool, true, false, List, [], ◌∷◌, ◌++◌, length, refl, sym, ap, subst, arith, length-append, get_or, inl, inr, zero, suc, Some, replicate}
+use Rattle.std.proofs.Common.{◌≡◌, ◌≢◌, ℕ, ◌+◌, ◌*◌, ◌<◌, ◌≤◌, ◌∙◌, ◌⊎◌, Bool, true, false, List, [], ◌∷◌, ◌++◌, length, refl, sym, ap, subst, arith, length-append, get_or, inl, inr, zero, suc, Option, Some, None, replicate}
 use Rattle.std.proofs.Math.ListN.{set}
 use Rattle.std.proofs.lemmas.Bool.{cases_lt}
 use Rattle.std.proofs.lemmas.List.{get_or-set_same, get_or-set_other, length-set, length-replicate, get_or-replicate, get_or_past}
 use Rattle.stride_isa.specs.Listing.{Listing, code_of, op_at}
 use Rattle.stride_isa.specs.Marks.{place_of, IsMarked, Waits, unmarked_count, Visits, IsPair, IsDone, IsGrowing, IsTable}
-use Rattle.stride_isa.specs.Steps.{Step, target_of, goes_on}
-use Rattle.stride_isa.specs.Validity.{stack_limit, Leads, Reaches, Begin, Follow}
+use Rattle.stride_isa.specs.Instructions.{kind, goes_on}
+use Rattle.stride_isa.specs.Limits.{stack_limit}
+use Rattle.stride_isa.specs.Steps.{Step}
+use Rattle.stride_isa.specs.Validity.{target_of, Leads, LeadsBy, Reaches, Begin, Follow}
 use Rattle.stride_isa.specs.declared.op.Op.{Op}
-use Rattle.stride_isa.specs.declared.op.Op.TheVariants.{Jump, Jz, Jnz, Halt}
 use Rattle.stride_isa.specs.declared.pair.Pair.{Pair}
 
 -- a mark that is set leaves one less to set
@@ -72,21 +73,24 @@ visits_new marks work pair inside shallow free = record {
     new at depth h m (inr other) = inl (rw get_or-set_other at m)
 
 -- where an instruction leads: to its target, or to the next position
-pub leads_by : (op : Op) (at next : ℕ) → Leads op at next → (target_of op ≡ Some next) ⊎ ((goes_on op ≡ true) × (next ≡ at + 1))
-leads_by (Jump target) at next h = inl (ap Some (sym h))
-leads_by (Jz target) at next (inl h) = inl (ap Some (sym h))
-leads_by (Jz target) at next (inr h) = inr (refl, h)
-leads_by (Jnz target) at next (inl h) = inl (ap Some (sym h))
-leads_by (Jnz target) at next (inr h) = inr (refl, h)
-leads_by Halt at next h = absurd h
-leads_by op at next h = inr (refl, h)
+leads_by_parts : (target : Option ℕ) (on : Bool) (at next : ℕ) → LeadsBy target on at next → (target ≡ Some next) ⊎ ((on ≡ true) × (next ≡ at + 1))
+leads_by_parts (Some target) false at next h = inl (ap Some (sym h))
+leads_by_parts (Some target) true at next (inl h) = inl (ap Some (sym h))
+leads_by_parts (Some target) true at next (inr h) = inr (refl, h)
+leads_by_parts None false at next h = absurd h
+leads_by_parts None true at next h = inr (refl, h)
 
-pub leads_next : (op : Op) (at next : ℕ) → goes_on op ≡ true → next ≡ at + 1 → Leads op at next
-leads_next (Jump target) at next e h = absurd (cc)
-leads_next (Jz target) at next e h = inr h
-leads_next (Jnz target) at next e h = inr h
-leads_next Halt at next e h = absurd (cc)
-leads_next op at next e h = h
+pub leads_by : (op : Op) (at next : ℕ) → Leads op at next → (target_of op ≡ Some next) ⊎ ((goes_on (kind op) ≡ true) × (next ≡ at + 1))
+leads_by op at next h = leads_by_parts (target_of op) (goes_on (kind op)) at next h
+
+leads_next_parts : (target : Option ℕ) (on : Bool) (at next : ℕ) → on ≡ true → next ≡ at + 1 → LeadsBy target on at next
+leads_next_parts (Some target) false at next e h = absurd (cc)
+leads_next_parts (Some target) true at next e h = inr h
+leads_next_parts None false at next e h = absurd (cc)
+leads_next_parts None true at next e h = h
+
+pub leads_next : (op : Op) (at next : ℕ) → goes_on (kind op) ≡ true → next ≡ at + 1 → Leads op at next
+leads_next op at next e h = leads_next_parts (target_of op) (goes_on (kind op)) at next e h
 
 -- what is reached is shallow, and inside a code that is not empty
 pub reaches_shallow : (p : Listing) (thread at depth : ℕ) → Reaches p thread at depth → depth ≤ stack_limit

@@ -4,23 +4,20 @@ use Rattle.std.proofs.lemmas.Bool.{cases_lt}
 use Rattle.std.proofs.lemmas.List.{get_or_past}
 use Rattle.stride_isa.proofs.MarksLemmas.{leads_by, leads_next, reaches_shallow, reaches_inside}
 use Rattle.stride_isa.specs.Faults.{HasDepthFault, ReachedDepth, Strays, RunsOffAfter, rank}
-use Rattle.stride_isa.specs.Instructions.{kind, popped}
+use Rattle.stride_isa.specs.Instructions.{kind, popped, goes_on}
+use Rattle.stride_isa.specs.Limits.{stack_limit}
 use Rattle.stride_isa.specs.Listing.{Listing, code_of, op_at}
 use Rattle.stride_isa.specs.Marks.{IsMarked, IsTable}
-use Rattle.stride_isa.specs.Steps.{target_of, goes_on}
 use Rattle.stride_isa.specs.Telling.{TellsKind, IsFirstKind, IsFirstIn, IsNamed, IsNamedWhole, IsFaultless, IsFaultlessWhole, StraysWith, HasTwo, IsOnly}
-use Rattle.stride_isa.specs.Validity.{stack_limit, depth_after, Leads, TargetsInside, Reaches, Begin, Follow, IsFine, IsValid}
+use Rattle.stride_isa.specs.Validity.{target_of, depth_after, Leads, IsInside, TargetsInside, Reaches, Begin, Follow, IsFine, IsValid}
 use Rattle.stride_isa.specs.declared.check_error.CheckKind.{CheckKind}
 use Rattle.stride_isa.specs.declared.check_error.CheckKind.TheVariants.{Underflow, Overflow, TwoDepths, RunsOff, BadTarget, BadName}
 use Rattle.stride_isa.specs.declared.op.Op.{Op}
-use Rattle.stride_isa.specs.declared.op.Op.TheVariants.{Jump, Jz, Jnz, Halt}
+use Rattle.stride_isa.specs.declared.op.Op.TheVariants.{Halt}
 
 -- a jump leads to its target, which is inside
 target_inside : (p : Listing) (thread : ℕ) (op : Op) (next : ℕ) → TargetsInside p thread op → target_of op ≡ Some next → next < length (code_of p thread)
-target_inside p thread (Jump target) next h e = let same : target ≡ next = cc in omega arith
-target_inside p thread (Jz target) next h e = let same : target ≡ next = cc in omega arith
-target_inside p thread (Jnz target) next h e = let same : target ≡ next = cc in omega arith
-target_inside p thread op next h e = absurd (cc)
+target_inside p thread op next h e = subst (IsInside p thread) e h
 
 -- two depths are marked
 pub two_marked : (p : Listing) (thread at : ℕ) (marks : List Bool) → thread < length p.threads → IsTable p thread marks → HasTwo (IsMarked marks at) 65 → IsFirstKind (HasDepthFault p thread at) TwoDepths
@@ -47,7 +44,7 @@ module _ (p : Listing) (thread at depth : ℕ) (marks : List Bool) (last : Bool)
   abbrev only_pair : ReachedDepth p thread at
   only_pair = record { depth = depth; reached = table.reached at depth (omega (arith, one.below)) one.marked }
 
-  runs_on : RunsOffAfter p thread at → (goes_on (op_at p thread at) ≡ true) × (last ≡ true)
+  runs_on : RunsOffAfter p thread at → (goes_on (kind (op_at p thread at)) ≡ true) × (last ≡ true)
   runs_on h = elim (leads_by (op_at p thread at) at (at + 1) h.0) [
     | inl jumps ↦ absurd (let there = target_inside p thread (op_at p thread at) (at + 1) named.target jumps in omega (arith, h.1))
     | inr next ↦ (next.0, off h.1)

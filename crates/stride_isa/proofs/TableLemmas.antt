@@ -1,16 +1,14 @@
 -- Each kind of instruction stands in the table.
-use Rattle.std.proofs.Common.{◌≢◌, ℕ, ◌<◌, List, [], ◌∷◌, length, arith, Option, Some, None, IfNone}
+use Rattle.std.proofs.Common.{◌≡◌, ◌≢◌, ℕ, ◌<◌, Bool, true, false, List, [], ◌∷◌, length, find, sym, arith, zero, suc, cond, refl, subst, Option, Some, None, IfNone, IfSome}
 use Rattle.std.specs.List.{slice_index_or}
+use Rattle.std.specs.Str.{bytes_eq}
+use Rattle.std.proofs.lemmas.Slice.Eq.{bytes_eq-Decides}
 use Rattle.stride_isa.specs.declared.op.OpKind.{OpKind}
 use Rattle.stride_isa.specs.declared.op.OpKind.TheVariants as kinds
-use Rattle.stride_isa.specs.Instructions.{spelling}
-
--- all kinds, each at its row
-abbrev pub table : List OpKind
-table = kinds.Push ∷ kinds.Dup ∷ kinds.Drop ∷ kinds.Swap ∷ kinds.Over ∷ kinds.Add ∷ kinds.Sub ∷ kinds.Mul ∷ kinds.Div ∷ kinds.Rem ∷ kinds.And ∷ kinds.Or ∷ kinds.Xor ∷ kinds.Shl ∷ kinds.Shr ∷ kinds.Eq ∷ kinds.Lt ∷ kinds.Not ∷ kinds.Get ∷ kinds.Set ∷ kinds.Jump ∷ kinds.Jz ∷ kinds.Jnz ∷ kinds.Read ∷ kinds.Write ∷ kinds.ReadAt ∷ kinds.WriteAt ∷ kinds.Xchg ∷ kinds.AddTo ∷ kinds.Cas ∷ kinds.Enter ∷ kinds.Exit ∷ kinds.Print ∷ kinds.Halt ∷ []
+use Rattle.stride_isa.specs.Instructions.{spelling, all_kinds, kind_named}
 
 -- a word that no row's name is, is no kind's name
-unnamed_each : (word : List ℕ) → ((i : ℕ) (d : OpKind) → i < length table → spelling (slice_index_or table i d) ≢ word) → (kind : OpKind) → spelling kind ≢ word
+unnamed_each : (word : List ℕ) → ((i : ℕ) (d : OpKind) → i < length all_kinds → spelling (slice_index_or all_kinds i d) ≢ word) → (kind : OpKind) → spelling kind ≢ word
 unnamed_each word h kinds.Push = h 0 kinds.Push (omega arith)
 unnamed_each word h kinds.Dup = h 1 kinds.Dup (omega arith)
 unnamed_each word h kinds.Drop = h 2 kinds.Drop (omega arith)
@@ -46,7 +44,28 @@ unnamed_each word h kinds.Exit = h 31 kinds.Exit (omega arith)
 unnamed_each word h kinds.Print = h 32 kinds.Print (omega arith)
 unnamed_each word h kinds.Halt = h 33 kinds.Halt (omega arith)
 
--- the same of an answer of none
-pub unnamed : (result : Option OpKind) (word : List ℕ) → IfNone result ((i : ℕ) (d : OpKind) → i < length table → spelling (slice_index_or table i d) ≢ word) → IfNone result ((kind : OpKind) → spelling kind ≢ word)
-unnamed (Some found) word h = tt
-unnamed None word h = unnamed_each word h
+-- what is found by a word has it as its name
+found_named : (word : List ℕ) (kinds : List OpKind) → IfSome (find (λ kind. bytes_eq (spelling kind) word) kinds) (λ kind. spelling kind ≡ word)
+found_named word [] = tt
+found_named word (k ∷ ks) =
+    at (bytes_eq (spelling k) word) refl (found_named word ks) where
+      at : (here : Bool) → bytes_eq (spelling k) word ≡ here → IfSome (find (λ kind. bytes_eq (spelling kind) word) ks) (λ kind. spelling kind ≡ word) → IfSome (cond here (Some k) (find (λ kind. bytes_eq (spelling kind) word) ks)) (λ kind. spelling kind ≡ word)
+      at true same later = (bytes_eq-Decides (spelling k) word).0 same
+      at false other later = later
+
+-- where nothing is found, no row's name is the word
+none_named : (word : List ℕ) (kinds : List OpKind) → find (λ kind. bytes_eq (spelling kind) word) kinds ≡ None → (i : ℕ) (d : OpKind) → i < length kinds → spelling (slice_index_or kinds i d) ≢ word
+none_named word [] none i d lt = absurd (omega arith)
+none_named word (k ∷ ks) none i d lt =
+    at (bytes_eq (spelling k) word) refl none (λ e j below. none_named word ks e j d below) i lt where
+      at : (here : Bool) → bytes_eq (spelling k) word ≡ here → cond here (Some k) (find (λ kind. bytes_eq (spelling kind) word) ks) ≡ None → (find (λ kind. bytes_eq (spelling kind) word) ks ≡ None → (j : ℕ) → j < length ks → spelling (slice_index_or ks j d) ≢ word) → (i : ℕ) → i < length (k ∷ ks) → spelling (slice_index_or (k ∷ ks) i d) ≢ word
+      at true same none later i lt = absurd (cc)
+      at false other none later zero lt = λ same. absurd (let e = (bytes_eq-Decides (spelling k) word).1 same in cc)
+      at false other none later (suc i) lt = later none i (omega arith)
+
+pub named_found : (word : List ℕ) (result : Option OpKind) → result ≡ kind_named word → IfSome result (λ kind. spelling kind ≡ word)
+named_found word result e = subst (λ found. IfSome found (λ kind. spelling kind ≡ word)) (sym e) (found_named word all_kinds)
+
+pub named_none : (word : List ℕ) (result : Option OpKind) → result ≡ kind_named word → IfNone result ((kind : OpKind) → spelling kind ≢ word)
+named_none word (Some found) e = tt
+named_none word None e = unnamed_each word (none_named word all_kinds (sym e))

@@ -1,8 +1,9 @@
 -- The faults for which a program is refused, and which of them is told.
 use Rattle.std.specs.Prelude.{◌≡◌, ℕ, ◌+◌, ◌<◌, ◌⊎◌, length, Option, Some, None}
 use Rattle.stride_isa.specs.Instructions.{kind, popped}
+use Rattle.stride_isa.specs.Limits.{stack_limit}
 use Rattle.stride_isa.specs.Listing.{Listing, code_of, op_at}
-use Rattle.stride_isa.specs.Validity.{stack_limit, depth_after, Leads, Names, TargetsInside, Reaches, IsValid}
+use Rattle.stride_isa.specs.Validity.{depth_after, Leads, Names, TargetsInside, Reaches, IsValid}
 use Rattle.stride_isa.specs.declared.check_error.CheckError.{CheckError}
 use Rattle.stride_isa.specs.declared.check_error.CheckError.TheVariants.{Bad, NoMemory}
 use Rattle.stride_isa.specs.declared.check_error.CheckKind.{CheckKind}

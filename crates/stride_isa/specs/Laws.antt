@@ -10,6 +10,16 @@ abbrev pub ValidHasNoFault : Type 0
 ValidHasNoFault =
     (p : Listing) → IsValid p → (thread at : ℕ) (kind : CheckKind) → (HasNameFault p thread at kind → ⊥) × (HasDepthFault p thread at kind → ⊥)
 
+-- a program without a fault of either rule is valid
+abbrev pub FaultlessIsValid : Type 0
+FaultlessIsValid =
+    (p : Listing) → ((thread at : ℕ) (kind : CheckKind) → (HasNameFault p thread at kind → ⊥) × (HasDepthFault p thread at kind → ⊥)) → IsValid p
+
+-- a program that has no first fault is valid: one that is not valid does not lack a first fault
+abbrev pub NoFirstFaultIsValid : Type 0
+NoFirstFaultIsValid =
+    (p : Listing) → ((thread at : ℕ) (kind : CheckKind) → IsFirstFault p thread at kind → ⊥) → IsValid p
+
 -- a program has one first fault at most
 abbrev pub OneFirstFault : Type 0
 OneFirstFault =

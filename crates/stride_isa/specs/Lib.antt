@@ -3,6 +3,7 @@ pub mod Faults
 pub mod Instructions
 pub mod Kept
 pub mod Laws
+pub mod Limits
 pub mod Listing
 pub mod Marks
 pub mod Names

@@ -2,6 +2,7 @@
 use Rattle.std.specs.Prelude.{◌≡◌, ℕ, ◌+◌, ◌≤◌, ◌||◌, Bool, true, false, List, [], ◌∷◌, ◌++◌, length, map, take, replicate, slice_index, Result, Ok, Err}
 use Rattle.std.specs.List.{sum_by, list_any, flat_map, slice_index_or}
 use Rattle.std.specs.Str.{bytes_eq}
+use Rattle.stride_isa.specs.Limits.{thread_limit, cell_limit, monitor_limit, instruction_limit}
 use Rattle.stride_isa.specs.declared.decl.Decl.{Decl}
 use Rattle.stride_isa.specs.declared.decl.Shape.{Shape}
 use Rattle.stride_isa.specs.declared.decl.Shape.TheVariants.{Single, Array}
@@ -97,7 +98,7 @@ RefusesBy taken full (Err NoMemory) = Unit {0}
 
 -- the limits of a program
 pub record IsWithinLimits (p : Listing) : Type 0 where
-  pub cells : cell_count p.decls ≤ 256
-  pub monitors : length p.monitors ≤ 64
-  pub threads : length p.threads ≤ 16
-  pub instructions : instruction_count p.threads ≤ 65536
+  pub cells : cell_count p.decls ≤ cell_limit
+  pub monitors : length p.monitors ≤ monitor_limit
+  pub threads : length p.threads ≤ thread_limit
+  pub instructions : instruction_count p.threads ≤ instruction_limit

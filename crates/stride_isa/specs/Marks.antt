@@ -2,14 +2,15 @@
 use Rattle.std.specs.Prelude.{◌≡◌, ℕ, ◌+◌, ◌*◌, ◌<◌, ◌≤◌, ◌⊎◌, Bool, true, false, List, [], ◌∷◌, length}
 use Rattle.std.specs.List.{slice_index_or}
 use Rattle.stride_isa.specs.Listing.{Listing, code_of, op_at}
-use Rattle.stride_isa.specs.Validity.{stack_limit, Reaches}
+use Rattle.stride_isa.specs.Limits.{stack_limit}
+use Rattle.stride_isa.specs.Validity.{Reaches}
 use Rattle.stride_isa.specs.Steps.{Step}
 use Rattle.stride_isa.specs.declared.pair.Pair.{Pair}
 use Rattle.stride_isa.specs.declared.reaching.Growing.{Growing}
 
 -- how many depths a stack may have
 abbrev pub depth_count : ℕ
-depth_count = 65
+depth_count = stack_limit + 1
 
 -- the place of a pair in the table, which has a row of depths for each position
 abbrev pub place_of : ℕ → ℕ → ℕ

@@ -1,22 +1,9 @@
 -- One step from a pair of position and depth, said as the check looks for it.
-use Rattle.std.specs.Prelude.{◌≡◌, ℕ, ◌<◌, ◌≤◌, Bool, true, false, Option, Some, None}
+use Rattle.std.specs.Prelude.{◌≡◌, ℕ, ◌<◌, ◌≤◌}
 use Rattle.stride_isa.specs.Instructions.{kind, popped}
-use Rattle.stride_isa.specs.Validity.{stack_limit, depth_after, Leads}
+use Rattle.stride_isa.specs.Limits.{stack_limit}
+use Rattle.stride_isa.specs.Validity.{depth_after, Leads}
 use Rattle.stride_isa.specs.declared.op.Op.{Op}
-use Rattle.stride_isa.specs.declared.op.Op.TheVariants.{Jump, Jz, Jnz, Halt}
-
--- the position to which an instruction may jump
-abbrev pub target_of : Op → Option ℕ
-target_of (Jump target) = Some target
-target_of (Jz target) = Some target
-target_of (Jnz target) = Some target
-target_of op = None
-
--- whether the next position may follow
-abbrev pub goes_on : Op → Bool
-goes_on (Jump target) = false
-goes_on Halt = false
-goes_on op = true
 
 -- an instruction that is met with its operands and with room for its results leaves this depth
 pub record LeavesDepth (op : Op) (depth after : ℕ) : Type 0 where

@@ -1,10 +1,10 @@
 -- What the parts of the check answer: the first fault of a position, of a thread, of the program.
 use Rattle.std.specs.Prelude.{◌≡◌, ℕ, ◌<◌, length, Bool, true, Option, Some, None}
 use Rattle.stride_isa.specs.Faults.{HasNameFault, HasDepthFault, IsFirst, rank}
-use Rattle.stride_isa.specs.Instructions.{kind, popped}
+use Rattle.stride_isa.specs.Instructions.{kind, popped, goes_on}
 use Rattle.stride_isa.specs.Listing.{Listing, code_of, op_at}
-use Rattle.stride_isa.specs.Steps.{goes_on}
-use Rattle.stride_isa.specs.Validity.{stack_limit, depth_after, Names, TargetsInside}
+use Rattle.stride_isa.specs.Limits.{stack_limit}
+use Rattle.stride_isa.specs.Validity.{depth_after, Names, TargetsInside}
 use Rattle.stride_isa.specs.declared.check_error.CheckError.{CheckError}
 use Rattle.stride_isa.specs.declared.check_error.CheckError.TheVariants.{Bad, NoMemory}
 use Rattle.stride_isa.specs.declared.check_error.CheckKind.{CheckKind}
@@ -74,7 +74,7 @@ IsDepthRefusal p NoMemory = Unit {0}
 abbrev pub StraysWith : Op → ℕ → Bool → CheckKind → Type 0
 StraysWith op depth last Underflow = depth < popped (kind op)
 StraysWith op depth last Overflow = stack_limit < depth_after op depth
-StraysWith op depth last RunsOff = (goes_on op ≡ true) × (last ≡ true)
+StraysWith op depth last RunsOff = (goes_on (kind op) ≡ true) × (last ≡ true)
 StraysWith op depth last k = ⊥
 
 -- two depths that are marked, both below a limit

@@ -1,5 +1,5 @@
 //! The check on tables of programs, and beside a plain check.
-ghost use Rattle.std.specs.Prelude.{◌<◌, length};
+ghost use Rattle.std.specs.Prelude.{◌≡◌, ◌<◌, length};
 
 use super::*;
 use crate::plain_check;
@@ -70,7 +70,7 @@ fn tells(
 
 #[test]
 fn faults_of_one_thread(rt: HostRuntime) -> Result<(), Fail> {
-    let rows: [(&[Op], Option<CheckError>); 20] = [
+    let rows: [(&[Op], Option<CheckError>); 28] = [
         (&[Halt], None),
         (&[], bad(RunsOff, 0, 0)),
         (&[Push(1)], bad(RunsOff, 0, 0)),
@@ -97,6 +97,14 @@ fn faults_of_one_thread(rt: HostRuntime) -> Result<(), Fail> {
         ),
         (&[Push(0), ReadAt(0), Halt], bad(BadName, 0, 1)),
         (&[Halt, Read(2)], bad(BadName, 0, 1)),
+        (&[Push(1), Xchg(0), Print, Halt], None),
+        (&[Push(1), AddTo(0), Print, Halt], None),
+        (&[Push(1), Push(2), Cas(0), Print, Halt], None),
+        (&[Push(1), Xchg(1), Halt], bad(BadName, 0, 1)),
+        (&[Push(1), AddTo(2), Halt], bad(BadName, 0, 1)),
+        (&[Push(1), Push(2), Cas(1), Halt], bad(BadName, 0, 2)),
+        (&[Xchg(0), Halt], bad(Underflow, 0, 0)),
+        (&[Push(1), Cas(0), Halt], bad(Underflow, 0, 1)),
         (&[Enter(0), Exit(0), Halt], None),
         (&[Exit(1), Halt], bad(BadName, 0, 0)),
         (&[Halt, Pop, Pop], None),
@@ -219,10 +227,17 @@ fn the_largest_table(rt: HostRuntime) -> Result<(), Fail> {
     Ok(())
 }
 
+// The same value, of a type that threads may share and hand to one another.
+fn handed_over<T: Send + Sync>(value: T) -> T
+    ensures { result ≡ value }
+{
+    value
+}
+
 #[test]
 fn a_checked_program_is_looked_at(rt: HostRuntime) -> Result<(), Fail> {
     let program = program_of(rt.alloc(), &[&[Push(3), Write(0), Halt]])?;
-    let checked = check(rt.alloc(), program)?;
+    let checked = handed_over(check(rt.alloc(), program)?);
     assert_eq!(rt; checked.threads(), 1);
     assert_eq!(rt; checked.code_len(0), 3);
     assert!(rt; checked.op(0, 1) == Write(0));
@@ -246,7 +261,7 @@ fn draw(state: &mut u64, limit: u64) -> u64
 fn drawn_op(state: &mut u64) -> Op {
     let target = (draw(state, 12) + u64::from(draw(state, 60) == 0)) as u32;
     let name = u32::from(draw(state, 60) == 0);
-    match draw(state, 14) {
+    match draw(state, 17) {
         0..=2 => Push(1),
         3 => Dup,
         4 | 5 => Pop,
@@ -257,6 +272,9 @@ fn drawn_op(state: &mut u64) -> Op {
         10 => Jnz(target),
         11 => Halt,
         12 => Read(name),
+        13 => Xchg(name),
+        14 => AddTo(name),
+        15 => Cas(name),
         _ => Not,
     }
 }

@@ -1,7 +1,8 @@
 //! The check of a program, and checked programs.
 ghost use Rattle.std.specs.Prelude.{◌≡◌, ◌≤◌, ◌<◌, ◌+◌, ℕ, IfOk, IfErr, length, slice_index};
 ghost use Rattle.std.specs.List.{slice_index_or};
-ghost use Rattle.stride_isa.specs.Listing.{cell_count, cells_of, first_cell, start_of, code_of, op_at, decl_at};
+ghost use Rattle.stride_isa.specs.Limits.{cell_limit, instruction_limit, monitor_limit, thread_limit};
+ghost use Rattle.stride_isa.specs.Listing.{cell_count, cells_of, first_cell, start_of, starts_of, code_of, op_at, decl_at};
 ghost use Rattle.stride_isa.specs.Faults.{IsRefusal};
 ghost use Rattle.stride_isa.specs.Validity.{IsFine, IsValid, Reaches};
 ghost use Rattle.stride_isa.specs.WellFormed.{IsWellFormed};
@@ -45,19 +46,36 @@ pub fn check(alloc: Global, program: Program) -> Result<Checked, CheckError>
     Ok(Checked { program })
 }
 
+fn start_in(decls: &[Decl], cell: u32) -> u64
+    requires { cell < cell_count decls.now }
+    ensures { result ≡ slice_index (starts_of decls.now) cell }
+{
+    let mut left = cell;
+    let mut rest = decls;
+    while let Some((decl, after)) = rest.split_first() {
+        let size = decl.shape.cells();
+        if left < size {
+            return decl.start;
+        }
+        left -= size;
+        rest = after;
+    }
+    unreachable!()
+}
+
 impl Checked {
     /// What holds of every checked program; the call does nothing.
-    pub fn is_sound(&self)
+    pub fn facts(&self)
         ensures formed { IsWellFormed self.now }
         ensures valid { IsValid self.now }
     {
-        self.program.is_well_formed();
+        self.program.facts();
     }
 
     /// How many threads there are.
     pub fn threads(&self) -> u32
         ensures count { result ≡ length self.now.threads }
-        ensures small { result ≤ 16 }
+        ensures small { result ≤ thread_limit }
     {
         self.program.threads()
     }
@@ -67,7 +85,7 @@ impl Checked {
         requires { thread < length self.now.threads }
         ensures count { result ≡ length (code_of self.now thread) }
         ensures some { 0 < result }
-        ensures small { result ≤ 65536 }
+        ensures small { result ≤ instruction_limit }
     {
         self.program.code_len(thread)
     }
@@ -77,7 +95,7 @@ impl Checked {
         requires thread { thread < length self.now.threads }
         requires inside { at < length (code_of self.now thread) }
         ensures is { result ≡ op_at self.now thread at }
-        ensures small { at < 65536 }
+        ensures small { at < instruction_limit }
         ensures fine { (depth : ℕ) → Reaches self.now thread at depth → IsFine self.now thread at depth }
     {
         self.program.op(thread, at)
@@ -86,7 +104,7 @@ impl Checked {
     /// How many variables and arrays are declared.
     pub fn decls(&self) -> u32
         ensures count { result ≡ length self.now.decls }
-        ensures small { result ≤ 256 }
+        ensures small { result ≤ cell_limit }
     {
         self.program.decls()
     }
@@ -102,7 +120,7 @@ impl Checked {
     /// How many monitors are declared.
     pub fn monitors(&self) -> u32
         ensures count { result ≡ length self.now.monitors }
-        ensures small { result ≤ 64 }
+        ensures small { result ≤ monitor_limit }
     {
         self.program.monitors()
     }
@@ -112,15 +130,15 @@ impl Checked {
         requires { at < length self.now.monitors }
         ensures { result.now ≡ slice_index_or self.now.monitors at result.now }
     {
-        self.program.monitor(at)
+        &self.program.monitors[at as usize]
     }
 
     /// How many cells the variables and arrays have together.
     pub fn cells(&self) -> u32
         ensures count { result ≡ cell_count self.now.decls }
-        ensures small { result ≤ 256 }
+        ensures small { result ≤ cell_limit }
     {
-        self.program.cells()
+        self.program.cells
     }
 
     /// The starting value of a cell.
@@ -128,7 +146,7 @@ impl Checked {
         requires { cell < cell_count self.now.decls }
         ensures { result ≡ start_of self.now cell }
     {
-        self.program.start_of(cell)
+        start_in(&self.program.decls, cell)
     }
 
     /// The number of the first cell of a declaration.
@@ -136,8 +154,8 @@ impl Checked {
         requires { decl < length self.now.decls }
         ensures is { result ≡ first_cell self.now.decls decl }
         ensures within { result + cells_of (decl_at self.now decl).shape ≤ cell_count self.now.decls }
-        ensures small { cell_count self.now.decls ≤ 256 }
+        ensures small { cell_count self.now.decls ≤ cell_limit }
     {
-        self.program.first_cell(decl)
+        self.program.firsts[decl as usize]
     }
 }

@@ -34,7 +34,7 @@ pub struct Decl {
 }
 
 /// What holds of every declaration with a size that it may have; the call does nothing.
-pub(crate) fn is_declaration(decl: &Decl)
+pub(crate) fn declaration_facts(decl: &Decl)
     requires { HasSize decl.now.shape }
     ensures { IsDeclaration decl.now }
 {

@@ -1,9 +1,19 @@
 //! Laws of validity and of the first fault, each as the contract of a function that does nothing.
-ghost use Rattle.stride_isa.specs.Laws.{ValidHasNoFault, OneFirstFault, OneVerdict};
+ghost use Rattle.stride_isa.specs.Laws.{ValidHasNoFault, FaultlessIsValid, NoFirstFaultIsValid, OneFirstFault, OneVerdict};
 
 /// A valid program has no fault.
 pub fn valid_has_no_fault()
     ensures { ValidHasNoFault }
+{}
+
+/// A program without a fault is valid.
+pub fn faultless_is_valid()
+    ensures { FaultlessIsValid }
+{}
+
+/// A program without a first fault is valid, so an invalid one does not lack a first fault.
+pub fn no_first_fault_is_valid()
+    ensures { NoFirstFaultIsValid }
 {}
 
 /// A program has one first fault at most: one thread, position and kind.

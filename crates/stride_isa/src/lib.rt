@@ -13,10 +13,12 @@ mod checking;
 mod decl;
 mod depths;
 mod laws;
+pub mod limits;
 mod looking;
 mod name;
 mod naming;
 mod op;
+mod operand;
 mod pair;
 mod program;
 mod reaching;
@@ -29,9 +31,14 @@ pub use change::Change;
 pub use check_error::{CheckError, CheckKind};
 pub use checking::{Checked, check};
 pub use decl::{Decl, Shape};
-pub use laws::{one_first_fault, one_verdict, valid_has_no_fault};
+pub use laws::{
+    faultless_is_valid, no_first_fault_is_valid, one_first_fault, one_verdict, valid_has_no_fault,
+};
 pub use name::Name;
-pub use op::{Op, OpKind, effect, kind_of, name_of, op_named};
+pub use op::{
+    Op, OpKind, class_of, effect, goes_on, kind_of, name_of, op_named, op_with, operand_of,
+};
+pub use operand::{Operand, OperandClass};
 pub use program::{AddError, Program};
 pub use stack::Stack;
 

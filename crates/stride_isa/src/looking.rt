@@ -1,35 +1,18 @@
 //! Looking at a program.
 ghost use Rattle.std.specs.Prelude.{◌≡◌, ◌≤◌, ◌<◌, ◌+◌, length, slice_index};
 ghost use Rattle.std.specs.List.{slice_index_or};
+ghost use Rattle.stride_isa.specs.Limits.{cell_limit, instruction_limit, monitor_limit, thread_limit};
 ghost use Rattle.stride_isa.specs.Listing.{cell_count, cells_of, first_cell, start_of, starts_of, code_of, op_at, decl_at};
 ghost use Rattle.stride_isa.specs.WellFormed.{IsWellFormed};
 
 use crate::decl::Decl;
-use crate::name::Name;
 use crate::op::Op;
 use crate::program::Program;
 
-fn start_in(decls: &[Decl], cell: u32) -> u64
-    requires { cell < cell_count decls.now }
-    ensures { result ≡ slice_index (starts_of decls.now) cell }
-{
-    let mut left = cell;
-    let mut rest = decls;
-    while let Some((decl, after)) = rest.split_first() {
-        let size = decl.shape.cells();
-        if left < size {
-            return decl.start;
-        }
-        left -= size;
-        rest = after;
-    }
-    unreachable!()
-}
-
-/// Looking at a program; `Checked` offers these to callers.
+/// What the check looks at; `Checked` offers these and more to callers.
 impl Program {
     /// What holds of every program; the call does nothing.
-    pub(crate) fn is_well_formed(&self)
+    pub(crate) fn facts(&self)
         ensures { IsWellFormed self.now }
     {
         let _ = &self.decls;
@@ -38,7 +21,7 @@ impl Program {
     /// How many threads there are.
     pub(crate) fn threads(&self) -> u32
         ensures count { result ≡ length self.now.threads }
-        ensures small { result ≤ 16 }
+        ensures small { result ≤ thread_limit }
     {
         self.threads.len() as u32
     }
@@ -47,7 +30,7 @@ impl Program {
     pub(crate) fn code_len(&self, thread: u32) -> u32
         requires { thread < length self.now.threads }
         ensures count { result ≡ length (code_of self.now thread) }
-        ensures small { result ≤ 65536 }
+        ensures small { result ≤ instruction_limit }
     {
         self.threads[thread as usize].len() as u32
     }
@@ -57,7 +40,7 @@ impl Program {
         requires thread { thread < length self.now.threads }
         requires inside { at < length (code_of self.now thread) }
         ensures is { result ≡ op_at self.now thread at }
-        ensures small { at < 65536 }
+        ensures small { at < instruction_limit }
     {
         self.threads[thread as usize][at as usize]
     }
@@ -65,7 +48,7 @@ impl Program {
     /// How many variables and arrays are declared.
     pub(crate) fn decls(&self) -> u32
         ensures count { result ≡ length self.now.decls }
-        ensures small { result ≤ 256 }
+        ensures small { result ≤ cell_limit }
     {
         self.decls.len() as u32
     }
@@ -81,42 +64,8 @@ impl Program {
     /// How many monitors are declared.
     pub(crate) fn monitors(&self) -> u32
         ensures count { result ≡ length self.now.monitors }
-        ensures small { result ≤ 64 }
+        ensures small { result ≤ monitor_limit }
     {
         self.monitors.len() as u32
-    }
-
-    /// The name of the monitor at a position.
-    pub(crate) fn monitor(&self, at: u32) -> &Name
-        requires { at < length self.now.monitors }
-        ensures { result.now ≡ slice_index_or self.now.monitors at result.now }
-    {
-        &self.monitors[at as usize]
-    }
-
-    /// How many cells the variables and arrays have together.
-    pub(crate) fn cells(&self) -> u32
-        ensures count { result ≡ cell_count self.now.decls }
-        ensures small { result ≤ 256 }
-    {
-        self.cells
-    }
-
-    /// The starting value of a cell.
-    pub(crate) fn start_of(&self, cell: u32) -> u64
-        requires { cell < cell_count self.now.decls }
-        ensures { result ≡ start_of self.now cell }
-    {
-        start_in(&self.decls, cell)
-    }
-
-    /// The number of the first cell of a declaration.
-    pub(crate) fn first_cell(&self, decl: u32) -> u32
-        requires { decl < length self.now.decls }
-        ensures is { result ≡ first_cell self.now.decls decl }
-        ensures within { result + cells_of (decl_at self.now decl).shape ≤ cell_count self.now.decls }
-        ensures small { cell_count self.now.decls ≤ 256 }
-    {
-        self.firsts[decl as usize]
     }
 }

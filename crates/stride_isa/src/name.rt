@@ -3,9 +3,8 @@ ghost use Rattle.std.specs.Prelude.{◌≡◌, ◌↔◌, ◌≤◌, true, false
 ghost use Rattle.std.specs.List.{list_all};
 ghost use Rattle.stride_isa.specs.Names.{starts_name, continues_name, is_name};
 
+use crate::limits::NAME_LIMIT;
 use std::marker::Model;
-
-const NAME_LIMIT: usize = 32;
 
 /// A name: 1 to 32 bytes, a letter or `_` and then letters, digits and `_`. Contracts see its bytes.
 #[derive(Debug, Drop)]
@@ -16,13 +15,14 @@ pub struct Name {
 
 impl Model for Name {
     ghost use Rattle.std.specs.Prelude.{◌≡◌, ◌≤◌, ℕ, List, true, take};
+    ghost use Rattle.stride_isa.specs.Limits.{name_limit};
     ghost use Rattle.stride_isa.specs.Names.{is_name};
 
     ghost Value = { List ℕ };
 
     ghost view = { λ n. take n.len n.bytes };
 
-    ghost invariant = { λ n. (n.len ≤ 32) × (is_name (take n.len n.bytes) ≡ true) };
+    ghost invariant = { λ n. (n.len ≤ name_limit) × (is_name (take n.len n.bytes) ≡ true) };
 }
 
 fn starts(byte: u8) -> bool

@@ -8,13 +8,12 @@ ghost use Rattle.stride_isa.specs.declared.decl.Shape.TheVariants.{Single};
 
 use crate::check_error::{CheckError, CheckKind};
 use crate::decl::Shape;
-use crate::op::Op;
+use crate::limits::LOCAL_COUNT;
+use crate::op::{Op, operand_of};
+use crate::operand::Operand;
 use crate::program::Program;
 use crate::spot::Spot;
 use crate::successors::target_of;
-
-/// How many locals a thread has.
-const LOCAL_COUNT: u8 = 16;
 
 // Whether a variable is declared at a position.
 fn names_variable(program: &Program, decl: u32) -> bool
@@ -49,14 +48,12 @@ fn names(program: &Program, op: Op) -> bool
     ensures on { result ≡ true → Names program.now op }
     ensures off { result ≡ false → Names program.now op → ⊥ }
 {
-    match op {
-        Op::Get(local) | Op::Set(local) => local < LOCAL_COUNT,
-        Op::Read(decl) | Op::Write(decl) | Op::Xchg(decl) | Op::AddTo(decl) | Op::Cas(decl) => {
-            names_variable(program, decl)
-        }
-        Op::ReadAt(decl) | Op::WriteAt(decl) => names_array(program, decl),
-        Op::Enter(monitor) | Op::Exit(monitor) => monitor < program.monitors(),
-        _ => true,
+    match operand_of(op) {
+        Operand::Nothing | Operand::Number(_) | Operand::Label(_) => true,
+        Operand::Local(local) => usize::from(local) < LOCAL_COUNT,
+        Operand::Variable(decl) => names_variable(program, decl),
+        Operand::Array(decl) => names_array(program, decl),
+        Operand::Monitor(monitor) => monitor < program.monitors(),
     }
 }
 

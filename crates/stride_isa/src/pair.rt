@@ -2,10 +2,10 @@
 ghost use Rattle.std.specs.Prelude.{◌≡◌, ◌≤◌};
 ghost use Rattle.stride_isa.specs.Marks.{place_of};
 
-/// The most words on an operand stack.
-pub(crate) const STACK_LIMIT: u32 = 64;
+use crate::limits::STACK_LIMIT;
+
 /// How many depths a stack may have: none to all of its words.
-pub(crate) const DEPTHS: u32 = STACK_LIMIT + 1;
+pub(crate) const DEPTHS: u32 = STACK_LIMIT as u32 + 1;
 
 /// A position of a thread's code, and the depth of the stack with which it is reached.
 #[derive(Clone, Copy, Debug, Drop)]

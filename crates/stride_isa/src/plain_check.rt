@@ -2,16 +2,18 @@
 //! is gone through again until nothing changes. `check` is compared with it.
 
 use crate::check_error::{CheckError, CheckKind};
+use crate::limits::{LOCAL_COUNT, STACK_LIMIT};
 use crate::op::{Op, effect, kind_of};
 use std::alloc::{AllocError, Global};
 
 /// How many depths a stack may have.
-const DEPTHS: usize = 65;
+const DEPTHS: usize = STACK_LIMIT + 1;
 
 fn names_well(op: Op) -> bool {
     match op {
-        Op::Get(local) | Op::Set(local) => local < 16,
-        Op::Read(decl) | Op::Write(decl) => decl == 0,
+        Op::Get(local) | Op::Set(local) => usize::from(local) < LOCAL_COUNT,
+        Op::Read(decl) | Op::Write(decl) | Op::Xchg(decl) | Op::AddTo(decl) | Op::Cas(decl) => decl
+            == 0,
         Op::ReadAt(decl) | Op::WriteAt(decl) => decl == 1,
         Op::Enter(monitor) | Op::Exit(monitor) => monitor == 0,
         _ => true,

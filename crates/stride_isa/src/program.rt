@@ -2,24 +2,17 @@
 ghost use Rattle.std.specs.Prelude.{◌≡◌, ◌==◌, ◌||◌, ◌<◌, ◌≤◌, ◌+◌, ◌^◌, false, length, IfOk, IfErr, OnOk, OnErr, nat_lt, nat_le, map, slice_get, Some, slice_index};
 ghost use Rattle.std.specs.List.{list_any};
 ghost use Rattle.std.specs.Str.{bytes_eq};
+ghost use Rattle.stride_isa.specs.Limits.{cell_limit, instruction_limit, monitor_limit, thread_limit};
 ghost use Rattle.stride_isa.specs.Listing.{empty, is_taken, cell_count, cells_of, first_cell, start_of, instruction_count, code_of, op_at, decl_at, with_decl, with_monitor, with_thread, with_op, push_last, RefusesBy};
 ghost use Rattle.stride_isa.specs.WellFormed.{HasSize, PushesWord};
 ghost use Rattle.stride_isa.specs.declared.program.AddError.TheVariants.{NoMemory};
 
-use crate::decl::{Decl, Shape, is_declaration};
+use crate::decl::{Decl, Shape, declaration_facts};
+use crate::limits::{CELL_LIMIT, INSTRUCTION_LIMIT, MONITOR_LIMIT, THREAD_LIMIT};
 use crate::name::Name;
 use crate::op::Op;
 use std::alloc::{AllocError, AllocFailed, Global};
 use std::marker::Model;
-
-/// The most threads of a program.
-pub const THREAD_LIMIT: usize = 16;
-/// The most cells of all variables and arrays of a program together.
-pub const CELL_LIMIT: u32 = 256;
-/// The most monitors of a program.
-pub const MONITOR_LIMIT: usize = 64;
-/// The most instructions of all threads of a program together.
-pub const INSTRUCTION_LIMIT: u32 = 65_536;
 
 /// Why something was not added to a program.
 #[derive(Clone, Copy, Debug, PartialEq, Eq)]
@@ -67,7 +60,7 @@ fn is_named(decls: &[Decl], monitors: &[Name], name: &[u8]) -> bool
 }
 
 // What holds of every instruction; the call does nothing.
-fn pushes_word(op: Op)
+fn op_facts(op: Op)
     ensures { PushesWord op }
 {
     if let Op::Push(word) = op {
@@ -98,6 +91,7 @@ pub struct Program {
 
 impl Model for Program {
     ghost use Rattle.std.specs.Prelude.{map};
+    ghost use Rattle.stride_isa.specs.Limits.{cell_limit, instruction_limit, monitor_limit, thread_limit};
     ghost use Rattle.stride_isa.specs.Listing.{Listing};
     ghost use Rattle.stride_isa.specs.Kept.{IsKept};
 
@@ -128,13 +122,13 @@ impl Program {
         requires { HasSize decl.shape }
         ensures position { IfOk result (λ at. at ≡ length self.old.decls) }
         ensures added { OnOk result (self.new ≡ with_decl self.old decl) }
-        ensures refused { RefusesBy (is_taken self.old decl.name) (nat_lt 256 (cell_count self.old.decls + cells_of decl.shape)) result }
+        ensures refused { RefusesBy (is_taken self.old decl.name) (nat_lt cell_limit (cell_count self.old.decls + cells_of decl.shape)) result }
         ensures err { OnErr result (self.new ≡ self.old) }
     {
         if is_named(&self.decls, &self.monitors, decl.name.as_slice()) {
             return Err(AddError::Twice);
         }
-        is_declaration(&decl);
+        declaration_facts(&decl);
         let size = decl.shape.cells();
         if size > CELL_LIMIT - self.cells {
             return Err(AddError::TooMany);
@@ -151,7 +145,7 @@ impl Program {
     pub fn add_monitor(&mut self, name: Name) -> Result<u32, AddError>
         ensures position { IfOk result (λ at. at ≡ length self.old.monitors) }
         ensures added { OnOk result (self.new ≡ with_monitor self.old name) }
-        ensures refused { RefusesBy (is_taken self.old name) (nat_le 64 (length self.old.monitors)) result }
+        ensures refused { RefusesBy (is_taken self.old name) (nat_le monitor_limit (length self.old.monitors)) result }
         ensures err { OnErr result (self.new ≡ self.old) }
     {
         if is_named(&self.decls, &self.monitors, name.as_slice()) {
@@ -169,7 +163,7 @@ impl Program {
     pub fn add_thread(&mut self) -> Result<u32, AddError>
         ensures position { IfOk result (λ thread. thread ≡ length self.old.threads) }
         ensures added { OnOk result (self.new ≡ with_thread self.old) }
-        ensures refused { RefusesBy false (nat_le 16 (length self.old.threads)) result }
+        ensures refused { RefusesBy false (nat_le thread_limit (length self.old.threads)) result }
         ensures err { OnErr result (self.new ≡ self.old) }
     {
         let thread = self.threads.len();
@@ -186,13 +180,13 @@ impl Program {
         requires { 0 < length self.old.threads }
         ensures added { OnOk result (self.new ≡ with_op self.old op) }
         ensures threads { length self.new.threads ≡ length self.old.threads }
-        ensures refused { RefusesBy false (nat_le 65536 (instruction_count self.old.threads)) result }
+        ensures refused { RefusesBy false (nat_le instruction_limit (instruction_count self.old.threads)) result }
         ensures err { OnErr result (self.new ≡ self.old) }
     {
         if self.instructions >= INSTRUCTION_LIMIT {
             return Err(AddError::TooMany);
         }
-        pushes_word(op);
+        op_facts(op);
         push_to_last(&mut self.threads, op)?;
         self.instructions += 1;
         Ok(())

@@ -2,13 +2,15 @@
 ghost use Rattle.std.specs.Prelude.{◌≡◌, ℕ, ◌+◌, ◌*◌, ◌<◌, ◌≤◌, length, replicate, false, Some, true, IfOk, OnOk};
 ghost use Rattle.stride_isa.specs.Listing.{code_of};
 ghost use Rattle.stride_isa.specs.Marks.{depth_count, place_of, IsMarked, VisitsOnly, IsPair, IsPairInside, IsGrowing, IsTable};
-ghost use Rattle.stride_isa.specs.Steps.{target_of, goes_on, FollowsAt, Step};
-ghost use Rattle.stride_isa.specs.Validity.{stack_limit};
+ghost use Rattle.stride_isa.specs.Instructions.{goes_on, kind};
+ghost use Rattle.stride_isa.specs.Limits.{stack_limit};
+ghost use Rattle.stride_isa.specs.Steps.{FollowsAt, Step};
+ghost use Rattle.stride_isa.specs.Validity.{target_of};
 
-use crate::op::Op;
+use crate::op::{Op, goes_on, kind_of};
 use crate::pair::{DEPTHS, Pair};
 use crate::program::Program;
-use crate::successors::{depth_behind, goes_on, target_of};
+use crate::successors::{depth_after, target_of};
 use std::alloc::{AllocError, Global};
 
 /// The pairs that are marked, and those of them whose steps are still to be taken.
@@ -73,10 +75,10 @@ impl Growing {
         requires long { length self.old.marks.items ≡ depth_count * size }
         requires inside { at < size }
         requires shallow { depth ≤ stack_limit }
-        ensures marked { OnOk result (goes_on op ≡ true → at + 1 < size → IsMarked self.new.marks.items (at + 1) depth) }
-        ensures visits { OnOk result (VisitsOnly (λ next after. (goes_on op ≡ true) × (next ≡ at + 1) × (next < size) × (after ≡ depth)) self.old self.new) }
+        ensures marked { OnOk result (goes_on (kind op) ≡ true → at + 1 < size → IsMarked self.new.marks.items (at + 1) depth) }
+        ensures visits { OnOk result (VisitsOnly (λ next after. (goes_on (kind op) ≡ true) × (next ≡ at + 1) × (next < size) × (after ≡ depth)) self.old self.new) }
     {
-        if !goes_on(op) {
+        if !goes_on(kind_of(op)) {
             return Ok(());
         }
         self.visit_inside(Pair { at: at + 1, depth }, size)
@@ -101,7 +103,7 @@ impl Growing {
         ensures marked { OnOk result ((next after : ℕ) → Step op size pair.at pair.depth next after → IsMarked self.new.marks.items next after) }
         ensures visits { OnOk result (VisitsOnly (Step op size pair.at pair.depth) self.old self.new) }
     {
-        match depth_behind(op, pair.depth) {
+        match depth_after(op, pair.depth) {
             Some(after) => self.follow(op, pair.at, after, size),
             None => Ok(()),
         }

@@ -4,17 +4,16 @@ ghost use Rattle.stride_isa.specs.Faults.{HasDepthFault};
 ghost use Rattle.stride_isa.specs.Listing.{code_of};
 ghost use Rattle.stride_isa.specs.Marks.{IsTable};
 ghost use Rattle.stride_isa.specs.Telling.{TellsKind, TellsSpot, StraysWith, IsFaultless, IsFaultlessThread, IsFaultlessWhole, IsDepthRefusal, IsNamedThread, IsNamedWhole};
-ghost use Rattle.stride_isa.specs.Validity.{stack_limit};
+ghost use Rattle.stride_isa.specs.Limits.{stack_limit};
 ghost use Rattle.stride_isa.specs.declared.check_error.CheckKind.{CheckKind};
 
 use crate::check_error::{CheckError, CheckKind};
 use crate::depths::{Depths, depths_at};
-use crate::op::{Op, effect, kind_of};
-use crate::pair::STACK_LIMIT;
+use crate::limits::STACK_LIMIT;
+use crate::op::{Op, effect, goes_on, kind_of};
 use crate::program::Program;
 use crate::reaching::reached;
 use crate::spot::Spot;
-use crate::successors::goes_on;
 use std::alloc::{AllocError, Global};
 
 // The fault of an instruction that is met with one depth.
@@ -22,14 +21,15 @@ fn straying(op: Op, depth: u32, last: bool) -> Option<CheckKind>
     requires { depth ≤ stack_limit }
     ensures { TellsKind (StraysWith op depth last) ((kind : CheckKind) → StraysWith op depth last kind → ⊥) result }
 {
-    let (pops, pushes) = effect(kind_of(op));
+    let kind = kind_of(op);
+    let (pops, pushes) = effect(kind);
     if depth < u32::from(pops) {
         return Some(CheckKind::Underflow);
     }
-    if depth - u32::from(pops) + u32::from(pushes) > STACK_LIMIT {
+    if depth - u32::from(pops) + u32::from(pushes) > STACK_LIMIT as u32 {
         return Some(CheckKind::Overflow);
     }
-    if last && goes_on(op) {
+    if last && goes_on(kind) {
         return Some(CheckKind::RunsOff);
     }
     None

@@ -79,16 +79,42 @@ fn instructions_by_name(rt: HostRuntime) {
 
 #[test]
 fn kinds_of_instructions(rt: HostRuntime) {
-    let rows: [(Op, OpKind); 6] = [
-        (Op::Push(7), OpKind::Push),
-        (Op::Xor, OpKind::Xor),
-        (Op::Get(15), OpKind::Get),
-        (Op::Jnz(2), OpKind::Jnz),
-        (Op::ReadAt(1), OpKind::ReadAt),
-        (Op::Exit(0), OpKind::Exit),
+    let rows: [(Op, OpKind, Operand); 9] = [
+        (Op::Push(7), OpKind::Push, Operand::Number(7)),
+        (Op::Xor, OpKind::Xor, Operand::Nothing),
+        (Op::Get(15), OpKind::Get, Operand::Local(15)),
+        (Op::Jnz(2), OpKind::Jnz, Operand::Label(2)),
+        (Op::Write(3), OpKind::Write, Operand::Variable(3)),
+        (Op::ReadAt(1), OpKind::ReadAt, Operand::Array(1)),
+        (Op::Xchg(4), OpKind::Xchg, Operand::Variable(4)),
+        (Op::Cas(5), OpKind::Cas, Operand::Variable(5)),
+        (Op::Exit(0), OpKind::Exit, Operand::Monitor(0)),
     ];
-    for (op, kind) in rows {
+    for (op, kind, operand) in rows {
         assert!(rt; kind_of(op) == kind);
+        assert!(rt; operand_of(op) == operand);
+    }
+    assert!(rt; op_with(OpKind::Push, u64::MAX) == Op::Push(u64::MAX));
+    assert!(rt; op_with(OpKind::Set, 15) == Op::Set(15));
+    assert!(rt; op_with(OpKind::AddTo, 255) == Op::AddTo(255));
+    assert!(rt; op_with(OpKind::Halt, 0) == Op::Halt);
+}
+
+#[test]
+fn what_updates_store(rt: HostRuntime) {
+    let compare = Change::IfEqual {
+        expected: 3,
+        new: 9,
+    };
+    let rows = [
+        (Change::Store(7), 3, 7),
+        (Change::Plus(2), 3, 5),
+        (Change::Plus(2), u64::MAX, 1),
+        (compare, 3, 9),
+        (compare, 4, 4),
+    ];
+    for (change, old, stored) in rows {
+        assert_eq!(rt; change.applied(old), stored);
     }
 }
 

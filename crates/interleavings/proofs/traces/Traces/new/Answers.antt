@@ -8,7 +8,7 @@ invariant_of-result c =
     rw (c.in_ok-empty_lists.ensures, c.in_ok-starting_values.ensures)
     (record {
       threads = simp length-replicate (omega arith);
-      cells = omega (arith, length-starts c.args.program.now.decls, c.is_sound.ensures.formed.limits.cells);
+      cells = omega (arith, length-starts c.args.program.now.decls, c.facts.ensures.formed.limits.cells);
       monitors = omega arith;
       counts = few_none c.threads.result;
     })

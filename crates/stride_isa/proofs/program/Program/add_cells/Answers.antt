@@ -12,4 +12,4 @@ invariant_of-self-2 c =
     let told = rw (c.deref.ensures.value, c.deref-2.ensures.value, c.as_slice.ensures.bytes) at c.is_named.ensures in
     let fits : c.self.inside.cells + cells_of c.args.decl.shape ≤ 256 = omega (arith, c.cells-size.ensures, c.self.invariant.cells, c.self.invariant.formed.limits.cells) in
     rw (c.in_ok-push.ensures.items, c.push_reserved.ensures.items, c.in_ok-reserve.ensures.items, c.cells-size.ensures)
-    (kept_decl _ c.self.inside.firsts.items c.self.inside.cells c.self.inside.instructions c.args.decl c.self.invariant c.is_declaration.ensures (sym told ∙ c.if-is_named.false) fits)
+    (kept_decl _ c.self.inside.firsts.items c.self.inside.cells c.self.inside.instructions c.args.decl c.self.invariant c.declaration_facts.ensures (sym told ∙ c.if-is_named.false) fits)

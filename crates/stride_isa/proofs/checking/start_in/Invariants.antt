@@ -1,6 +1,6 @@
 use Rattle.std.proofs.Common.{◌≡◌, ◌<◌, length, slice_index}
 use Rattle.stride_isa.specs.Listing.{cell_count, starts_of}
-use Rattle.stride_isa.proofs.looking.start_in.Given as goal
+use Rattle.stride_isa.proofs.checking.start_in.Given as goal
 
 -- what is left to pass is a cell of the declarations that are left, with the value that is looked for
 abbrev pub invariant-loop-decl : goal.invariant-loop-decl
