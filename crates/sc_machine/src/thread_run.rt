@@ -1,6 +1,6 @@
 //! One thread's run.
-ghost use Rattle.std.specs.Prelude.{◌≡◌, ◌+◌, ◌-◌, ◌*◌, ◌≤◌, ◌<◌, Some, IfSome, length, unwrap_or, slice_index_or, false};
-ghost use Rattle.sc_machine.specs.ThreadStep.{out_of_steps as steps_end, settled};
+ghost use Rattle.std.specs.Prelude.{◌≡◌, ◌+◌, ◌-◌, ◌*◌, ◌≤◌, ◌<◌, Some, IfSome, length, unwrap_or};
+ghost use Rattle.sc_machine.specs.ThreadStep.{holds, out_of_steps as steps_end, settled};
 ghost use Rattle.sc_machine.specs.ThreadRun.{start_run, state, stop_at, StandsAt, SameThread, IsAnswered, IsShared, TakesWord, NamesCell};
 ghost use Rattle.sc_machine.specs.Went.{Went};
 ghost use Rattle.sc_machine.specs.declared.end.End.TheVariants.{Stopped};
@@ -171,11 +171,34 @@ impl<'p> ThreadRun<'p> {
         end
     }
 
-    /// Whether the thread holds this monitor.
+    /// Whether the thread holds this monitor. It holds none that the program does not have.
     pub fn held(&self, monitor: u32) -> bool
-        requires { monitor < 64 }
-        ensures { result ≡ slice_index_or self.now.held monitor false }
+        ensures { result ≡ holds self.now.held monitor }
     {
-        self.held[monitor as usize]
+        match self.held.get(monitor as usize) {
+            Some(held) => *held,
+            None => false,
+        }
+    }
+
+    /// The position of the next instruction. An end by a trap, a `halt` or `give_up` leaves it as it was.
+    pub fn pc(&self) -> u32
+        ensures { result ≡ self.now.pc }
+    {
+        self.pc
+    }
+
+    /// How many instructions the thread has made.
+    pub fn made(&self) -> u32
+        ensures { result ≡ self.now.made }
+    {
+        self.made
+    }
+
+    /// The thread's end, or `None` where it has not ended.
+    pub fn ended(&self) -> Option<End>
+        ensures { result ≡ self.now.ended }
+    {
+        self.ended
     }
 }
