@@ -10,7 +10,7 @@
 mod end;
 mod instruction;
 mod laws;
-mod limits;
+pub mod limits;
 mod printing;
 mod standing_thread;
 mod stop;
