@@ -11,9 +11,12 @@ mod end;
 mod instruction;
 mod laws;
 pub mod limits;
+mod operands;
 mod printing;
+mod running;
 mod standing_thread;
 mod stop;
+mod task;
 mod thread_run;
 mod trap;
 
