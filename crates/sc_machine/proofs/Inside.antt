@@ -15,15 +15,14 @@ use Rattle.sc_machine.specs.declared.stop.Stop.TheVariants.{Read, Write, Update,
 use Rattle.sc_machine.specs.ThreadStep.{Row, Goes, Ends, Stands, now_unless, row, stop_in, done_stack, out_of_steps}
 use Rattle.sc_machine.specs.Made.{Made}
 use Rattle.sc_machine.specs.ThreadRun.{Run, stop_at, IsShared, TakesWord}
-use Rattle.sc_machine.specs.Went.{Stood}
 use Rattle.sc_machine.specs.ThreadRunInside.{IsRun}
 use Rattle.sc_machine.proofs.Rows.{row_leads, shared_leads}
 
-pub is_run_at_start : (p : Listing) (thread fuel : ℕ) (stack : List ℕ) → stack ≡ [] → thread < length p.threads → 0 < length (code_of p thread) → 1 ≤ fuel → fuel ≤ 1000000 → IsRun p thread fuel 0 (length stack) 0 None
-is_run_at_start p thread fuel stack empty there inside some limit = record {
+pub is_run_at_start : (p : Listing) (thread fuel depth : ℕ) → depth ≡ 0 → thread < length p.threads → 0 < length (code_of p thread) → 1 ≤ fuel → fuel ≤ 1000000 → IsRun p thread fuel 0 depth 0 None
+is_run_at_start p thread fuel depth empty there inside some limit = record {
   thread_is = there;
   inside = inside;
-  reaches = subst (λ (xs : List ℕ). Reaches p thread 0 (length xs)) (sym empty) Begin;
+  reaches = subst (λ (n : ℕ). Reaches p thread 0 n) (sym empty) Begin;
   within = omega arith;
   limit = limit;
   going = λ e. some;
@@ -44,6 +43,16 @@ unspent fuel made ended none some = let e = lt-ltb made fuel some in rw e none
 pub fuel_left : (fuel made : ℕ) → out_of_steps fuel made ≡ None → made < fuel
 fuel_left fuel made e = ltb-true made fuel (chosen_none (nat_lt made fuel) OutOfSteps e)
 
+-- an instruction that is met has its operands
+pub enough_for : (p : Listing) (thread pc depth : ℕ) (op : Op) (stack : List ℕ) → op ≡ op_at p thread pc → length stack ≡ depth → IsFine p thread pc depth → popped (kind op) ≤ length stack
+enough_for p thread pc depth op stack is deep fine =
+    subst (λ (n : ℕ). popped (kind op) ≤ n) (sym deep) (subst (λ (x : Op). popped (kind x) ≤ depth) (sym is) fine.enough)
+
+-- and room for its results
+pub room_for : (p : Listing) (thread pc depth : ℕ) (op : Op) (stack : List ℕ) → op ≡ op_at p thread pc → length stack ≡ depth → IsFine p thread pc depth → depth_after op (length stack) ≤ 64
+room_for p thread pc depth op stack is deep fine =
+    subst (λ (n : ℕ). depth_after op n ≤ 64) (sym deep) (subst (λ (x : Op). depth_after x depth ≤ 64) (sym is) fine.room)
+
 -- what always holds stays after an instruction that leads on
 pub is_run_after : (p : Listing) (thread fuel pc depth made : ℕ) (ended : Option End) (op : Op) (next after : ℕ) (later : Option End) → IsRun p thread fuel pc depth made ended → ended ≡ None → op ≡ op_at p thread pc → IsFine p thread pc depth → Leads op pc next → after ≡ depth_after op depth → later ≡ out_of_steps fuel (made + 1) → IsRun p thread fuel next after (made + 1) later
 is_run_after p thread fuel pc depth made ended op next after later run goes_on is fine leads deep end =
@@ -59,43 +68,11 @@ is_run_after p thread fuel pc depth made ended op next after later run goes_on i
     }
 
 -- the same after a local instruction by which the thread goes on
-pub is_run_after_going : (p : Listing) (thread fuel pc made : ℕ) (ended : Option End) (op : Op) (stack stack' locals locals' : List ℕ) (held : List Bool) (out out' : Listed ℕ) (next : ℕ) (later : Option End) → IsRun p thread fuel pc (length stack) made ended → ended ≡ None → op ≡ op_at p thread pc → IsFine p thread pc (length stack) → Made (row p op pc stack locals held) (nexts.Goes next) stack stack' locals locals' out out' → later ≡ out_of_steps fuel (made + 1) → IsRun p thread fuel next (length stack') (made + 1) later
-is_run_after_going p thread fuel pc made ended op stack stack' locals locals' held out out' next later run goes_on is fine parts end =
-    let enough : popped (kind op) ≤ length stack = subst (λ (x : Op). popped (kind x) ≤ length stack) (sym is) fine.enough in
+pub is_run_after_going : (p : Listing) (thread fuel pc depth made : ℕ) (op : Op) (stack stack' locals locals' : List ℕ) (held : List Bool) (out out' : Listed ℕ) (next depth' : ℕ) (later : Option End) → IsRun p thread fuel pc depth made None → length stack ≡ depth → length stack' ≡ depth' → op ≡ op_at p thread pc → IsFine p thread pc depth → Made (row p op pc stack locals held) (nexts.Goes next) stack stack' locals locals' out out' → later ≡ out_of_steps fuel (made + 1) → IsRun p thread fuel next depth' (made + 1) later
+is_run_after_going p thread fuel pc depth made op stack stack' locals locals' held out out' next depth' later run deep deep' is fine parts end =
+    let enough : popped (kind op) ≤ length stack = enough_for p thread pc depth op stack is deep fine in
     let leads = row_leads p op pc stack locals held next enough parts.next_is in
-    is_run_after p thread fuel pc (length stack) made ended op next (length stack') later run goes_on is fine leads.0 (ap length parts.stack_is ∙ leads.1) end
-
-same_listed : (a b : Listed ℕ) → a.items ≡ b.items → a.spare ≡ b.spare → a ≡ b
-same_listed a b items spare =
-    let made : List ℕ → ℕ → Listed ℕ = λ xs n. record { items = xs; spare = n } in
-    ap (λ xs. made xs a.spare) items ∙ ap (λ n. made b.items n) spare
-
--- nothing changes at an instruction where the thread stands
-record Unmoved (r : Row) (stop : Stop) (stack stack' locals locals' : List ℕ) (out out' : Listed ℕ) : Type 0 where
-  row_is : r ≡ Stands stop
-  stack_same : stack' ≡ stack
-  locals_same : locals' ≡ locals
-  out_same : out' ≡ out
-
-unmoved : (r : Row) (stop : Stop) (stack stack' locals locals' : List ℕ) (out out' : Listed ℕ) → Made r (nexts.Stands stop) stack stack' locals locals' out out' → Unmoved r stop stack stack' locals locals' out out'
-unmoved (Goes pc s l printed) stop stack stack' locals locals' out out' m = let e = m.next_is in cc
-unmoved (Ends end) stop stack stack' locals locals' out out' m = let e = m.next_is in cc
-unmoved (Stands other) stop stack stack' locals locals' out out' m = let e = m.next_is in record {
-  row_is = cc;
-  stack_same = m.stack_is;
-  locals_same = m.locals_are;
-  out_same = same_listed out' out (m.printed ∙ append-nil out.items) (omega (arith, m.room));
-}
-
-pub stood : (p : Listing) (thread fuel pc made : ℕ) (stack stack' locals locals' : List ℕ) (held : List Bool) (ended : Option End) (op : Op) (old : Run) (out out' : Listed ℕ) (stop : Stop) → record { program = p; thread = thread; fuel = fuel; pc = pc; stack = stack; locals = locals; held = held; made = made; ended = ended } ≡ old → ended ≡ None → op ≡ op_at p thread pc → Made (row p op pc stack locals held) (nexts.Stands stop) stack stack' locals locals' out out' → Stood old (record { program = p; thread = thread; fuel = fuel; pc = pc; stack = stack'; locals = locals'; held = held; made = made; ended = ended }) out out' stop
-stood p thread fuel pc made stack stack' locals locals' held ended op old out out' stop view goes_on is m =
-    let u = unmoved (row p op pc stack locals held) stop stack stack' locals locals' out out' m in
-    let with_parts : List ℕ → List ℕ → Run = λ s l. record { program = p; thread = thread; fuel = fuel; pc = pc; stack = s; locals = l; held = held; made = made; ended = ended } in
-    subst (λ (x : Run). Stood x (with_parts stack' locals') out out' stop) view (record {
-      stands = ap (λ e. now_unless e (row p (op_at p thread pc) pc stack locals held)) goes_on ∙ ap (λ x. row p x pc stack locals held) (sym is) ∙ u.row_is;
-      run = ap (λ s. with_parts s locals') u.stack_same ∙ ap (λ l. with_parts stack l) u.locals_same;
-      output = u.out_same;
-    })
+    is_run_after p thread fuel pc depth made None op next depth' later run refl is fine leads.0 (sym deep' ∙ ap length parts.stack_is ∙ leads.1 ∙ ap (depth_after op) deep) end
 
 -- a stop that takes a word, or none, is a shared instruction
 shared_from_takes : (stop : Stop) (word : Option ℕ) → TakesWord stop word → IsShared stop
@@ -114,12 +91,11 @@ goes_on_at_shared None r shared = (refl, shared)
 goes_on_at_shared (Some end) r shared = absurd shared
 
 -- what always holds stays after a shared instruction is answered
-pub is_run_after_answer : (p : Listing) (thread fuel pc made : ℕ) (ended : Option End) (op : Op) (stack stack' locals : List ℕ) (held : List Bool) (old : Run) (word : Option ℕ) (later : Option End) → record { program = p; thread = thread; fuel = fuel; pc = pc; stack = stack; locals = locals; held = held; made = made; ended = ended } ≡ old → IsRun p thread fuel pc (length stack) made ended → TakesWord (stop_at old) word → op ≡ op_at p thread pc → IsFine p thread pc (length stack) → stack' ≡ done_stack op stack (unwrap_or word 0) → later ≡ out_of_steps fuel (made + 1) → IsRun p thread fuel (pc + 1) (length stack') (made + 1) later
-is_run_after_answer p thread fuel pc made ended op stack stack' locals held old word later view run takes is fine done end =
+pub is_run_after_answer : (p : Listing) (thread fuel pc depth made : ℕ) (ended : Option End) (op : Op) (stack stack' locals : List ℕ) (held : List Bool) (old : Run) (word : Option ℕ) (depth' : ℕ) (later : Option End) → record { program = p; thread = thread; fuel = fuel; pc = pc; stack = stack; locals = locals; held = held; made = made; ended = ended } ≡ old → IsRun p thread fuel pc depth made ended → TakesWord (stop_at old) word → op ≡ op_at p thread pc → IsFine p thread pc depth → length stack ≡ depth → length stack' ≡ depth' → stack' ≡ done_stack op stack (unwrap_or word 0) → (ended ≡ None → later ≡ out_of_steps fuel (made + 1)) → IsRun p thread fuel (pc + 1) depth' (made + 1) later
+is_run_after_answer p thread fuel pc depth made ended op stack stack' locals held old word depth' later view run takes is fine deep deep' done end =
     let run_before : Run = record { program = p; thread = thread; fuel = fuel; pc = pc; stack = stack; locals = locals; held = held; made = made; ended = ended } in
     let takes' : TakesWord (stop_at run_before) word = subst (λ (r : Run). TakesWord (stop_at r) word) (sym view) takes in
     let shared = goes_on_at_shared ended (row p (op_at p thread pc) pc stack locals held) (shared_from_takes (stop_at run_before) word takes') in
     let shared_here : IsShared (stop_in (row p op pc stack locals held)) = subst (λ (x : Op). IsShared (stop_in (row p x pc stack locals held))) (sym is) shared.1 in
-    let enough : popped (kind op) ≤ length stack = subst (λ (x : Op). popped (kind x) ≤ length stack) (sym is) fine.enough in
-    let leads = shared_leads p op pc stack locals held (unwrap_or word 0) enough shared_here in
-    is_run_after p thread fuel pc (length stack) made ended op (pc + 1) (length stack') later run shared.0 is fine leads.0 (ap length done ∙ leads.1) end
+    let leads = shared_leads p op pc stack locals held (unwrap_or word 0) (enough_for p thread pc depth op stack is deep fine) shared_here in
+    is_run_after p thread fuel pc depth made ended op (pc + 1) depth' later run shared.0 is fine leads.0 (sym deep' ∙ ap length done ∙ leads.1 ∙ ap (depth_after op) deep) (end shared.0)

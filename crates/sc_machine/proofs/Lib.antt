@@ -4,6 +4,7 @@ mod Examples
 mod GoingOn
 pub mod Inside
 pub mod Output
+pub mod RanOn
 pub mod Refusals
 pub mod Rows
 pub mod Single

@@ -1,6 +1,8 @@
 pub mod Laws
 pub mod Machine
 pub mod Made
+pub mod Operands
+pub mod Running
 pub mod Schedule
 pub mod StandingInside
 pub mod StandingThread
@@ -8,4 +10,3 @@ pub mod ThreadRun
 pub mod ThreadRunInside
 pub mod ThreadStep
 pub mod Transcript
-pub mod Went

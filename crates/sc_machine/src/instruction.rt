@@ -7,14 +7,16 @@ ghost use Rattle.sc_machine.specs.ThreadStep.{row, halt_end, member_cell as cell
 ghost use Rattle.sc_machine.specs.ThreadRun.{IsCell, IsMonitor};
 ghost use Rattle.sc_machine.specs.declared.end.End.TheVariants.{Trapped};
 ghost use Rattle.sc_machine.specs.Made.{Made, NextNamesCell};
+ghost use Rattle.sc_machine.specs.Operands.{operands};
 
 use crate::end::End;
 use crate::limits::{LOCAL_COUNT, MONITOR_LIMIT, STACK_LIMIT};
+use crate::operands::Top;
 use crate::printing::push_line;
 use crate::stop::Stop;
 use crate::trap::Trap;
 use stride_base::List;
-use stride_isa::{Change, Checked, Op, Stack, instructions};
+use stride_isa::{Change, Checked, Op, instructions};
 
 /// What an instruction came to.
 #[derive(Clone, Copy)]
@@ -39,116 +41,116 @@ macro_rules! with_operand {
 
 // One macro for each class of the table: what its instructions do to the parts, of which each class is handed all.
 macro_rules! pushes {
-    (Push ($program:ident $pc:ident $stack:ident $locals:ident $held:ident $out:ident) $value:ident) => {{
-        $stack.push($value);
+    (Push ($program:ident $pc:ident $words:ident $top:ident $locals:ident $held:ident $out:ident) $value:ident) => {{
+        $top.push($words, $value);
         Next::Goes($pc + 1)
     }};
 }
 
 macro_rules! stack {
-    (Dup ($program:ident $pc:ident $stack:ident $locals:ident $held:ident $out:ident) $value:ident) => {{
-        let top = $stack.peek(0);
-        $stack.push(top);
+    (Dup ($program:ident $pc:ident $words:ident $top:ident $locals:ident $held:ident $out:ident) $value:ident) => {{
+        let first = $top.peek($words, 0);
+        $top.push($words, first);
         Next::Goes($pc + 1)
     }};
-    (Drop ($program:ident $pc:ident $stack:ident $locals:ident $held:ident $out:ident) $value:ident) => {{
-        $stack.pop();
+    (Drop ($program:ident $pc:ident $words:ident $top:ident $locals:ident $held:ident $out:ident) $value:ident) => {{
+        $top.pop($words);
         Next::Goes($pc + 1)
     }};
-    (Swap ($program:ident $pc:ident $stack:ident $locals:ident $held:ident $out:ident) $value:ident) => {{
-        let top = $stack.pop();
-        let below = $stack.pop();
-        $stack.push(top);
-        $stack.push(below);
+    (Swap ($program:ident $pc:ident $words:ident $top:ident $locals:ident $held:ident $out:ident) $value:ident) => {{
+        let first = $top.pop($words);
+        let second = $top.pop($words);
+        $top.push($words, first);
+        $top.push($words, second);
         Next::Goes($pc + 1)
     }};
-    (Over ($program:ident $pc:ident $stack:ident $locals:ident $held:ident $out:ident) $value:ident) => {{
-        let below = $stack.peek(1);
-        $stack.push(below);
+    (Over ($program:ident $pc:ident $words:ident $top:ident $locals:ident $held:ident $out:ident) $value:ident) => {{
+        let second = $top.peek($words, 1);
+        $top.push($words, second);
         Next::Goes($pc + 1)
     }};
 }
 
 macro_rules! two {
-    ($variant:ident ($program:ident $pc:ident $stack:ident $locals:ident $held:ident $out:ident) $value:ident ($method:ident)) => {{
-        let right = $stack.pop();
-        let left = $stack.pop();
-        $stack.push(left.$method(right));
+    ($variant:ident ($program:ident $pc:ident $words:ident $top:ident $locals:ident $held:ident $out:ident) $value:ident ($method:ident)) => {{
+        let right = $top.pop($words);
+        let left = $top.pop($words);
+        $top.push($words, left.$method(right));
         Next::Goes($pc + 1)
     }};
 }
 
 macro_rules! quotient {
-    ($variant:ident ($program:ident $pc:ident $stack:ident $locals:ident $held:ident $out:ident) $value:ident ($operator:tt)) => {
-        if $stack.peek(0) == 0 {
+    ($variant:ident ($program:ident $pc:ident $words:ident $top:ident $locals:ident $held:ident $out:ident) $value:ident ($operator:tt)) => {
+        if $top.peek($words, 0) == 0 {
             Next::Ends(trapped(Trap::DivZero, $pc))
         } else {
-            let right = $stack.pop();
-            let left = $stack.pop();
-            $stack.push(left $operator right);
+            let right = $top.pop($words);
+            let left = $top.pop($words);
+            $top.push($words, left $operator right);
             Next::Goes($pc + 1)
         }
     };
 }
 
 macro_rules! bits {
-    ($variant:ident ($program:ident $pc:ident $stack:ident $locals:ident $held:ident $out:ident) $value:ident ($operator:tt)) => {{
-        let right = $stack.pop();
-        let left = $stack.pop();
-        $stack.push(left $operator right);
+    ($variant:ident ($program:ident $pc:ident $words:ident $top:ident $locals:ident $held:ident $out:ident) $value:ident ($operator:tt)) => {{
+        let right = $top.pop($words);
+        let left = $top.pop($words);
+        $top.push($words, left $operator right);
         Next::Goes($pc + 1)
     }};
 }
 
 macro_rules! shift {
-    ($variant:ident ($program:ident $pc:ident $stack:ident $locals:ident $held:ident $out:ident) $value:ident ($operator:tt)) => {{
-        let right = $stack.pop();
-        let left = $stack.pop();
-        $stack.push(left $operator (right % 64));
+    ($variant:ident ($program:ident $pc:ident $words:ident $top:ident $locals:ident $held:ident $out:ident) $value:ident ($operator:tt)) => {{
+        let right = $top.pop($words);
+        let left = $top.pop($words);
+        $top.push($words, left $operator (right % 64));
         Next::Goes($pc + 1)
     }};
 }
 
 macro_rules! compare {
-    ($variant:ident ($program:ident $pc:ident $stack:ident $locals:ident $held:ident $out:ident) $value:ident ($operator:tt)) => {{
-        let right = $stack.pop();
-        let left = $stack.pop();
-        $stack.push(u64::from(left $operator right));
+    ($variant:ident ($program:ident $pc:ident $words:ident $top:ident $locals:ident $held:ident $out:ident) $value:ident ($operator:tt)) => {{
+        let right = $top.pop($words);
+        let left = $top.pop($words);
+        $top.push($words, u64::from(left $operator right));
         Next::Goes($pc + 1)
     }};
 }
 
 macro_rules! complement {
-    ($variant:ident ($program:ident $pc:ident $stack:ident $locals:ident $held:ident $out:ident) $value:ident) => {{
-        let top = $stack.pop();
-        $stack.push(!top);
+    ($variant:ident ($program:ident $pc:ident $words:ident $top:ident $locals:ident $held:ident $out:ident) $value:ident) => {{
+        let first = $top.pop($words);
+        $top.push($words, !first);
         Next::Goes($pc + 1)
     }};
 }
 
 macro_rules! gets {
-    ($variant:ident ($program:ident $pc:ident $stack:ident $locals:ident $held:ident $out:ident) $local:ident) => {{
-        $stack.push($locals[$local as usize]);
+    ($variant:ident ($program:ident $pc:ident $words:ident $top:ident $locals:ident $held:ident $out:ident) $local:ident) => {{
+        $top.push($words, $locals[$local as usize]);
         Next::Goes($pc + 1)
     }};
 }
 
 macro_rules! sets {
-    ($variant:ident ($program:ident $pc:ident $stack:ident $locals:ident $held:ident $out:ident) $local:ident) => {{
-        $locals[$local as usize] = $stack.pop();
+    ($variant:ident ($program:ident $pc:ident $words:ident $top:ident $locals:ident $held:ident $out:ident) $local:ident) => {{
+        $locals[$local as usize] = $top.pop($words);
         Next::Goes($pc + 1)
     }};
 }
 
 macro_rules! jumps {
-    ($variant:ident ($program:ident $pc:ident $stack:ident $locals:ident $held:ident $out:ident) $position:ident) => {
+    ($variant:ident ($program:ident $pc:ident $words:ident $top:ident $locals:ident $held:ident $out:ident) $position:ident) => {
         Next::Goes($position)
     };
 }
 
 macro_rules! branches {
-    ($variant:ident ($program:ident $pc:ident $stack:ident $locals:ident $held:ident $out:ident) $target:ident ($operator:tt)) => {
-        if $stack.pop() $operator 0 {
+    ($variant:ident ($program:ident $pc:ident $words:ident $top:ident $locals:ident $held:ident $out:ident) $target:ident ($operator:tt)) => {
+        if $top.pop($words) $operator 0 {
             Next::Goes($target)
         } else {
             Next::Goes($pc + 1)
@@ -157,61 +159,61 @@ macro_rules! branches {
 }
 
 macro_rules! stands {
-    (Read ($program:ident $pc:ident $stack:ident $locals:ident $held:ident $out:ident) $decl:ident) => {
+    (Read ($program:ident $pc:ident $words:ident $top:ident $locals:ident $held:ident $out:ident) $decl:ident) => {
         Next::Stands(Stop::Read {
             cell: $program.first_cell($decl),
         })
     };
-    (Write ($program:ident $pc:ident $stack:ident $locals:ident $held:ident $out:ident) $decl:ident) => {
+    (Write ($program:ident $pc:ident $words:ident $top:ident $locals:ident $held:ident $out:ident) $decl:ident) => {
         Next::Stands(Stop::Write {
             cell: $program.first_cell($decl),
-            value: $stack.peek(0),
+            value: $top.peek($words, 0),
         })
     };
-    (ReadAt ($program:ident $pc:ident $stack:ident $locals:ident $held:ident $out:ident) $decl:ident) => {
-        match member_cell($program, $decl, $stack.peek(0)) {
+    (ReadAt ($program:ident $pc:ident $words:ident $top:ident $locals:ident $held:ident $out:ident) $decl:ident) => {
+        match member_cell($program, $decl, $top.peek($words, 0)) {
             Some(cell) => Next::Stands(Stop::Read { cell }),
             None => Next::Ends(trapped(Trap::Range, $pc)),
         }
     };
-    (WriteAt ($program:ident $pc:ident $stack:ident $locals:ident $held:ident $out:ident) $decl:ident) => {
-        match member_cell($program, $decl, $stack.peek(0)) {
+    (WriteAt ($program:ident $pc:ident $words:ident $top:ident $locals:ident $held:ident $out:ident) $decl:ident) => {
+        match member_cell($program, $decl, $top.peek($words, 0)) {
             Some(cell) => Next::Stands(Stop::Write {
                 cell,
-                value: $stack.peek(1),
+                value: $top.peek($words, 1),
             }),
             None => Next::Ends(trapped(Trap::Range, $pc)),
         }
     };
-    (Xchg ($program:ident $pc:ident $stack:ident $locals:ident $held:ident $out:ident) $decl:ident) => {
+    (Xchg ($program:ident $pc:ident $words:ident $top:ident $locals:ident $held:ident $out:ident) $decl:ident) => {
         Next::Stands(Stop::Update {
             cell: $program.first_cell($decl),
-            change: Change::Store($stack.peek(0)),
+            change: Change::Store($top.peek($words, 0)),
         })
     };
-    (AddTo ($program:ident $pc:ident $stack:ident $locals:ident $held:ident $out:ident) $decl:ident) => {
+    (AddTo ($program:ident $pc:ident $words:ident $top:ident $locals:ident $held:ident $out:ident) $decl:ident) => {
         Next::Stands(Stop::Update {
             cell: $program.first_cell($decl),
-            change: Change::Plus($stack.peek(0)),
+            change: Change::Plus($top.peek($words, 0)),
         })
     };
-    (Cas ($program:ident $pc:ident $stack:ident $locals:ident $held:ident $out:ident) $decl:ident) => {
+    (Cas ($program:ident $pc:ident $words:ident $top:ident $locals:ident $held:ident $out:ident) $decl:ident) => {
         Next::Stands(Stop::Update {
             cell: $program.first_cell($decl),
             change: Change::IfEqual {
-                expected: $stack.peek(1),
-                new: $stack.peek(0),
+                expected: $top.peek($words, 1),
+                new: $top.peek($words, 0),
             },
         })
     };
-    (Enter ($program:ident $pc:ident $stack:ident $locals:ident $held:ident $out:ident) $monitor:ident) => {
+    (Enter ($program:ident $pc:ident $words:ident $top:ident $locals:ident $held:ident $out:ident) $monitor:ident) => {
         if $held[monitor_index($program, $monitor)] {
             Next::Ends(trapped(Trap::Again, $pc))
         } else {
             Next::Stands(Stop::Enter { mon: $monitor })
         }
     };
-    (Exit ($program:ident $pc:ident $stack:ident $locals:ident $held:ident $out:ident) $monitor:ident) => {
+    (Exit ($program:ident $pc:ident $words:ident $top:ident $locals:ident $held:ident $out:ident) $monitor:ident) => {
         if $held[monitor_index($program, $monitor)] {
             Next::Stands(Stop::Exit { mon: $monitor })
         } else {
@@ -221,14 +223,14 @@ macro_rules! stands {
 }
 
 macro_rules! prints {
-    (Print ($program:ident $pc:ident $stack:ident $locals:ident $held:ident $out:ident) $value:ident) => {{
-        push_line($out, $stack.pop());
+    (Print ($program:ident $pc:ident $words:ident $top:ident $locals:ident $held:ident $out:ident) $value:ident) => {{
+        push_line($out, $top.pop($words));
         Next::Goes($pc + 1)
     }};
 }
 
 macro_rules! halts {
-    (Halt ($program:ident $pc:ident $stack:ident $locals:ident $held:ident $out:ident) $value:ident) => {
+    (Halt ($program:ident $pc:ident $words:ident $top:ident $locals:ident $held:ident $out:ident) $value:ident) => {
         Next::Ends(end_of_halt($held, $pc))
     };
 }
@@ -296,20 +298,21 @@ pub fn execute(
     op: Op,
     program: &Checked,
     pc: u32,
-    stack: &mut Stack<STACK_LIMIT>,
+    words: &mut [u64; STACK_LIMIT],
+    top: &mut Top,
     locals: &mut [u64; LOCAL_COUNT],
     held: &[bool; MONITOR_LIMIT],
     out: &mut List<u8>,
 ) -> Next
     requires position { pc < 65536 }
-    requires enough { popped (kind op) ≤ length stack.old }
-    requires room { depth_after op (length stack.old) ≤ 64 }
+    requires enough { popped (kind op) ≤ length (operands words.old top.old.depth) }
+    requires room { depth_after op (length (operands words.old top.old.depth)) ≤ 64 }
     requires names { Names program.now op }
     requires spare { 21 ≤ out.old.spare }
-    ensures made { Made (row program.now op pc stack.old locals.old held.now) result stack.old stack.new locals.old locals.new out.old out.new }
+    ensures made { Made (row program.now op pc (operands words.old top.old.depth) locals.old held.now) result (operands words.old top.old.depth) (operands words.new top.new.depth) locals.old locals.new out.old out.new }
     ensures names_cell { NextNamesCell program.now result }
 {
-    instructions!(arms!((program pc stack locals held out) op))
+    instructions!(arms!((program pc words top locals held out) op))
 }
 
 /// Completes a shared instruction, which is given the word that it reads, or 0.
@@ -317,32 +320,34 @@ pub fn finish(
     op: Op,
     program: &Checked,
     word: u64,
-    stack: &mut Stack<STACK_LIMIT>,
+    words: &mut [u64; STACK_LIMIT],
+    top: &mut Top,
     held: &mut [bool; MONITOR_LIMIT],
 )
-    requires enough { popped (kind op) ≤ length stack.old }
-    requires room { depth_after op (length stack.old) ≤ 64 }
+    requires enough { popped (kind op) ≤ length (operands words.old top.old.depth) }
+    requires room { depth_after op (length (operands words.old top.old.depth)) ≤ 64 }
     requires names { Names program.now op }
-    ensures stack { stack.new ≡ done_stack op stack.old word }
+    ensures stack { operands words.new top.new.depth ≡ done_stack op (operands words.old top.old.depth) word }
     ensures held { held.new ≡ done_held op held.old }
+    ensures whole { length words.new ≡ length words.old }
 {
     match op {
-        Op::Read(_) => stack.push(word),
+        Op::Read(_) => top.push(words, word),
         Op::Write(_) => {
-            stack.pop();
+            top.pop(words);
         }
         Op::ReadAt(_) | Op::Xchg(_) | Op::AddTo(_) => {
-            stack.pop();
-            stack.push(word);
+            top.pop(words);
+            top.push(words, word);
         }
         Op::Cas(_) => {
-            stack.pop();
-            stack.pop();
-            stack.push(word);
+            top.pop(words);
+            top.pop(words);
+            top.push(words, word);
         }
         Op::WriteAt(_) => {
-            stack.pop();
-            stack.pop();
+            top.pop(words);
+            top.pop(words);
         }
         Op::Enter(monitor) => held[monitor_index(program, monitor)] = true,
         Op::Exit(monitor) => held[monitor_index(program, monitor)] = false,

@@ -10,10 +10,13 @@
 mod end;
 mod instruction;
 mod laws;
-mod limits;
+pub mod limits;
+mod operands;
 mod printing;
+mod running;
 mod standing_thread;
 mod stop;
+mod task;
 mod thread_run;
 mod trap;
 

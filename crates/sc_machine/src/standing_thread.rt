@@ -6,15 +6,13 @@ ghost use Rattle.sc_machine.specs.ThreadRun.{IsShared, NamesCell, TakesWord, sta
 ghost use Rattle.sc_machine.specs.ThreadStep.{Stands, end_of, now};
 
 use crate::end::End;
+use crate::limits::LINE_LIMIT;
 use crate::stop::Stop;
 use crate::thread_run::ThreadRun;
 use std::alloc::Global;
 use std::marker::Model;
 use stride_base::{List, NoMemory};
 use stride_isa::Checked;
-
-/// The most bytes that one instruction prints: the digits of a word and a line feed.
-const LINE_LIMIT: usize = 21;
 
 /// One thread of a program at a shared instruction or at its end, with what it printed so far and room for all that it may
 /// print yet.

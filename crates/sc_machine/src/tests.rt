@@ -6,7 +6,7 @@ use super::*;
 use std::alloc::Global;
 use std::test::Fail;
 use stride_base::List;
-use stride_isa::{Checked, Decl, Name, Op, Program, Shape, check};
+use stride_isa::{Change, Checked, Decl, Name, Op, Program, Shape, check};
 
 fn variable(bytes: &[u8], start: u64) -> Option<Decl>
     ensures { IfSome result (λ d. d.shape ≡ Single) }
@@ -83,7 +83,7 @@ fn a_thread_is_given_up(rt: HostRuntime) -> Result<(), Fail> {
     let Stop::Write { .. } = writer.local(&mut out) else {
         return Err("no write")?;
     };
-    assert!(rt; !writer.held(63));
+    assert!(rt; !writer.held(63) && !writer.held(64) && !writer.held(u32::MAX));
     assert!(rt; writer.give_up() == End::Stopped { pc: 1 });
     assert!(rt;
         writer.local(&mut out)
@@ -138,5 +138,78 @@ fn prints_and_ends(rt: HostRuntime) -> Result<(), Fail> {
         assert!(rt; run.local(&mut out) == Stop::Ended { end });
         assert!(rt; out.as_slice() == text, "at {word} with fuel {fuel}");
     }
+    Ok(())
+}
+
+#[test]
+fn position_and_count_are_told(rt: HostRuntime) -> Result<(), Fail> {
+    let trap = End::Trapped {
+        trap: Trap::DivZero,
+        pc: 2,
+    };
+    let rows: [(&[Op], u32, u32, u32, Option<End>); 4] = [
+        (&WRITES, 10, 1, 1, None),
+        (&WRITES, 1, 1, 1, Some(End::OutOfSteps)),
+        (&[Op::Halt], 10, 0, 1, Some(End::Halted)),
+        (
+            &[Op::Push(1), Op::Push(0), Op::Div, Op::Halt],
+            10,
+            2,
+            3,
+            Some(trap),
+        ),
+    ];
+    for (code, fuel, pc, made, ended) in rows {
+        let checked = two_threads(rt.alloc(), code, &READS)?;
+        let mut out = List::new(rt.alloc());
+        out.reserve(21_000_000)?;
+        let mut run = ThreadRun::start(&checked, 0, fuel);
+        assert!(rt; run.pc() == 0 && run.made() == 0 && run.ended().is_none());
+        run.local(&mut out);
+        assert!(rt; run.pc() == pc && run.made() == made && run.ended() == ended);
+    }
+    Ok(())
+}
+
+#[test]
+fn updates_are_told_and_answered(rt: HostRuntime) -> Result<(), Fail> {
+    let rows: [(&[Op], Change); 3] = [
+        (
+            &[Op::Push(3), Op::Xchg(0), Op::Print, Op::Halt],
+            Change::Store(3),
+        ),
+        (
+            &[Op::Push(4), Op::AddTo(0), Op::Print, Op::Halt],
+            Change::Plus(4),
+        ),
+        (
+            &[Op::Push(5), Op::Push(6), Op::Cas(0), Op::Print, Op::Halt],
+            Change::IfEqual {
+                expected: 5,
+                new: 6,
+            },
+        ),
+    ];
+    for (code, change) in rows {
+        let checked = two_threads(rt.alloc(), code, &READS)?;
+        let mut thread = StandingThread::start(rt.alloc(), &checked, 0, 10)?;
+        let stop = thread.stop();
+        assert!(rt; stop == Stop::Update { cell: 0, change });
+        let Stop::Update { .. } = stop else {
+            return Err("no update")?;
+        };
+        thread.answer(Some(90));
+        assert!(rt; thread.printed() == b"90\n".as_slice());
+    }
+    Ok(())
+}
+
+fn is_send_and_sync<T: Send + Sync>(_value: &T) {}
+
+#[test]
+fn runs_move_between_threads_and_are_shared(rt: HostRuntime) -> Result<(), Fail> {
+    let checked = two_threads(rt.alloc(), &WRITES, &READS)?;
+    is_send_and_sync(&ThreadRun::start(&checked, 0, 10));
+    is_send_and_sync(&StandingThread::start(rt.alloc(), &checked, 0, 10)?);
     Ok(())
 }

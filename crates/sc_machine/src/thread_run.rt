@@ -1,55 +1,43 @@
 //! One thread's run.
-ghost use Rattle.std.specs.Prelude.{◌≡◌, ◌+◌, ◌-◌, ◌*◌, ◌≤◌, ◌<◌, Some, IfSome, length, unwrap_or, slice_index_or, false};
-ghost use Rattle.sc_machine.specs.ThreadStep.{out_of_steps as steps_end, settled};
+ghost use Rattle.std.specs.Prelude.{◌≡◌, ◌+◌, ◌-◌, ◌*◌, ◌≤◌, ◌<◌, Some, length, unwrap_or};
+ghost use Rattle.sc_machine.specs.ThreadStep.{holds, settled};
 ghost use Rattle.sc_machine.specs.ThreadRun.{start_run, state, stop_at, StandsAt, SameThread, IsAnswered, IsShared, TakesWord, NamesCell};
-ghost use Rattle.sc_machine.specs.Went.{Went};
 ghost use Rattle.sc_machine.specs.declared.end.End.TheVariants.{Stopped};
 
 use crate::end::End;
-use crate::instruction::{Next, execute, finish};
+use crate::instruction::finish;
 use crate::limits::{LOCAL_COUNT, MONITOR_LIMIT, STACK_LIMIT};
+use crate::operands::Top;
+use crate::running::{Cursor, run_on};
 use crate::stop::Stop;
+use crate::task::Task;
 use std::marker::Model;
 use stride_base::List;
-use stride_isa::{Checked, Stack};
-
-// The end of a thread that has made this many instructions and has none yet.
-fn out_of_steps(made: u32, fuel: u32) -> Option<End>
-    ensures { result ≡ steps_end fuel made }
-{
-    if made < fuel {
-        None
-    } else {
-        Some(End::OutOfSteps)
-    }
-}
+use stride_isa::Checked;
 
 /// One thread of a program while it runs. What it prints goes to a list of the caller's.
 ///
 /// A thread stands at a shared instruction until it is answered or given up. No call takes memory.
 #[derive(Drop)]
 pub struct ThreadRun<'p> {
-    program: &'p Checked,
-    thread: u32,
-    fuel: u32,
-    pc: u32,
-    stack: Stack<STACK_LIMIT>,
+    task: Task<'p>,
+    at: Cursor,
+    words: [u64; STACK_LIMIT],
     locals: [u64; LOCAL_COUNT],
     held: [bool; MONITOR_LIMIT],
-    made: u32,
     ended: Option<End>,
 }
 
 impl<'p> Model for ThreadRun<'p> {
-    ghost use Rattle.std.specs.Prelude.{length};
+    ghost use Rattle.sc_machine.specs.Operands.{operands};
     ghost use Rattle.sc_machine.specs.ThreadRun.{Run};
     ghost use Rattle.sc_machine.specs.ThreadRunInside.{IsRun};
 
     ghost Value = { Run };
 
-    ghost view = { λ a. record { program = a.program.now; thread = a.thread; fuel = a.fuel; pc = a.pc; stack = a.stack; locals = a.locals; held = a.held; made = a.made; ended = a.ended } };
+    ghost view = { λ a. record { program = a.task.program.now; thread = a.task.thread; fuel = a.task.fuel; pc = a.at.pc; stack = operands a.words a.at.top.depth; locals = a.locals; held = a.held; made = a.at.made; ended = a.ended } };
 
-    ghost invariant = { λ a. IsRun a.program.now a.thread a.fuel a.pc (length a.stack) a.made a.ended };
+    ghost invariant = { λ a. IsRun a.task.program.now a.task.thread a.task.fuel a.at.pc a.at.top.depth a.at.made a.ended };
 }
 
 impl<'p> ThreadRun<'p> {
@@ -60,59 +48,18 @@ impl<'p> ThreadRun<'p> {
         requires limit { fuel ≤ 1000000 }
         ensures { result ≡ start_run program.now thread fuel }
     {
-        // A checked program has no thread without code, so position 0 is inside the code.
-        let code_len = program.code_len(thread);
-        prove!(code_len > 0);
         ThreadRun {
-            program,
-            thread,
-            fuel,
-            pc: 0,
-            stack: Stack::new(),
+            task: Task::new(program, thread, fuel),
+            at: Cursor {
+                pc: 0,
+                made: 0,
+                top: Top::empty(),
+            },
+            words: [0; STACK_LIMIT],
             locals: [0; LOCAL_COUNT],
             held: [false; MONITOR_LIMIT],
-            made: 0,
             ended: None,
         }
-    }
-
-    // Makes one local instruction, or tells where the thread stands.
-    fn step(&mut self, out: &mut List<u8>) -> Option<Stop>
-        requires { 21 * (self.old.fuel - self.old.made) ≤ out.old.spare }
-        ensures went { Went self.old self.new out.old out.new result }
-        ensures same { SameThread self.old self.new }
-        ensures names_cell { IfSome result (NamesCell self.old.program) }
-        ensures fuel_left { IfSome result (λ stop. IsShared stop → self.old.made < self.old.fuel) }
-        ensures spare { 21 * (self.new.fuel - self.new.made) ≤ out.new.spare }
-        ensures used { out.new.spare + length out.new.items ≡ out.old.spare + length out.old.items }
-    {
-        if let Some(end) = self.ended {
-            return Some(Stop::Ended { end });
-        }
-        let op = self.program.op(self.thread, self.pc);
-        match execute(
-            op,
-            self.program,
-            self.pc,
-            &mut self.stack,
-            &mut self.locals,
-            &self.held,
-            out,
-        ) {
-            Next::Goes(pc) => {
-                self.pc = pc;
-                self.made += 1;
-                if self.made >= self.fuel {
-                    self.ended = Some(End::OutOfSteps);
-                }
-            }
-            Next::Ends(end) => {
-                self.made += 1;
-                self.ended = Some(end);
-            }
-            Next::Stands(stop) => return Some(stop),
-        }
-        None
     }
 
     /// Makes local instructions up to the next shared one or the end, and tells which it is. What they print is
@@ -132,11 +79,22 @@ impl<'p> ThreadRun<'p> {
         ensures spare { 21 * (self.new.fuel - self.new.made) ≤ out.new.spare }
         ensures used { out.new.spare + length out.new.items ≡ out.old.spare + length out.old.items }
     {
-        loop {
-            if let Some(stop) = self.step(out) {
-                return stop;
-            }
+        if let Some(end) = self.ended {
+            return Stop::Ended { end };
         }
+        let (at, stop) = run_on(
+            self.task,
+            self.at,
+            &mut self.words,
+            &mut self.locals,
+            &self.held,
+            out,
+        );
+        self.at = at;
+        if let Stop::Ended { end } = stop {
+            self.ended = Some(end);
+        }
+        stop
     }
 
     /// Completes the shared instruction at which the thread stands. The word is there exactly for a read or an
@@ -147,17 +105,21 @@ impl<'p> ThreadRun<'p> {
         ensures made { self.new.made ≡ self.old.made + 1 }
         ensures same { SameThread self.old self.new }
     {
-        let op = self.program.op(self.thread, self.pc);
+        let mut at = self.at;
         finish(
-            op,
-            self.program,
+            self.task.op(at.pc),
+            self.task.program,
             word.unwrap_or(0),
-            &mut self.stack,
+            &mut self.words,
+            &mut at.top,
             &mut self.held,
         );
-        self.pc += 1;
-        self.made += 1;
-        self.ended = out_of_steps(self.made, self.fuel);
+        at.pc += 1;
+        at.made += 1;
+        self.at = at;
+        if at.made >= self.task.fuel {
+            self.ended = Some(End::OutOfSteps);
+        }
     }
 
     /// Ends the thread at the shared instruction where it stands. The instruction is not counted.
@@ -166,16 +128,53 @@ impl<'p> ThreadRun<'p> {
         ensures end { result ≡ Stopped self.old.pc }
         ensures ended { self.new ≡ record self.old { ended = Some (Stopped self.old.pc) } }
     {
-        let end = End::Stopped { pc: self.pc };
+        let end = End::Stopped { pc: self.at.pc };
         self.ended = Some(end);
         end
     }
 
-    /// Whether the thread holds this monitor.
+    /// Whether the thread holds this monitor. It holds none that the program does not have.
     pub fn held(&self, monitor: u32) -> bool
-        requires { monitor < 64 }
-        ensures { result ≡ slice_index_or self.now.held monitor false }
+        ensures { result ≡ holds self.now.held monitor }
     {
-        self.held[monitor as usize]
+        match self.held.get(monitor as usize) {
+            Some(held) => *held,
+            None => false,
+        }
+    }
+
+    /// The position of the next instruction. An end by a trap, a `halt` or `give_up` leaves it as it was.
+    pub fn pc(&self) -> u32
+        ensures { result ≡ self.now.pc }
+    {
+        self.at.pc
+    }
+
+    /// A run of the same thread in the same state.
+    pub fn copy(&self) -> ThreadRun<'p>
+        ensures { result ≡ self.now }
+    {
+        ThreadRun {
+            task: self.task,
+            at: self.at,
+            words: self.words,
+            locals: self.locals,
+            held: self.held,
+            ended: self.ended,
+        }
+    }
+
+    /// How many instructions the thread has made.
+    pub fn made(&self) -> u32
+        ensures { result ≡ self.now.made }
+    {
+        self.at.made
+    }
+
+    /// The thread's end, or `None` where it has not ended.
+    pub fn ended(&self) -> Option<End>
+        ensures { result ≡ self.now.ended }
+    {
+        self.ended
     }
 }

@@ -90,6 +90,20 @@ impl Checked {
         self.program.code_len(thread)
     }
 
+    /// The code of a thread.
+    pub fn code(&self, thread: u32) -> &[Op]
+        requires { thread < length self.now.threads }
+        ensures is { result.now ≡ code_of self.now thread }
+        ensures some { 0 < length result.now }
+        ensures small { length result.now ≤ 65536 }
+        ensures fine { (at depth : ℕ) → Reaches self.now thread at depth → IsFine self.now thread at depth }
+    {
+        // A thread has code, and no more than the limit.
+        let code_len = self.code_len(thread);
+        prove!(0 < code_len && code_len <= 65_536);
+        self.program.code(thread)
+    }
+
     /// The instruction of a thread at a position.
     pub fn op(&self, thread: u32, at: u32) -> Op
         requires thread { thread < length self.now.threads }

@@ -35,6 +35,14 @@ impl Program {
         self.threads[thread as usize].len() as u32
     }
 
+    /// The code of a thread.
+    pub(crate) fn code(&self, thread: u32) -> &[Op]
+        requires { thread < length self.now.threads }
+        ensures { result.now ≡ code_of self.now thread }
+    {
+        self.threads[thread as usize].as_slice()
+    }
+
     /// The instruction of a thread at a position.
     pub(crate) fn op(&self, thread: u32, at: u32) -> Op
         requires thread { thread < length self.now.threads }

@@ -1,0 +1,73 @@
+//! The loop that runs a thread up to where it stands.
+ghost use Rattle.std.specs.Prelude.{◌≡◌, ◌+◌, ◌-◌, ◌*◌, ◌≤◌, None, length};
+ghost use Rattle.sc_machine.specs.Running.{RanOn, ended_by, going, left};
+ghost use Rattle.sc_machine.specs.ThreadRun.{NamesCell};
+ghost use Rattle.sc_machine.specs.ThreadRunInside.{IsRun};
+
+use crate::end::End;
+use crate::instruction::{Next, execute};
+use crate::limits::{LOCAL_COUNT, MONITOR_LIMIT, STACK_LIMIT};
+use crate::operands::Top;
+use crate::stop::Stop;
+use crate::task::Task;
+use stride_base::List;
+
+/// Where a thread is. The loop keeps it in registers.
+#[derive(Clone, Copy)]
+pub struct Cursor {
+    pub pc: u32,
+    pub made: u32,
+    pub top: Top,
+}
+
+/// Makes local instructions from this place up to the next shared one or the end, and tells which it is and where.
+#[inline(always)]
+pub fn run_on(
+    task: Task<'_>,
+    from: Cursor,
+    words: &mut [u64; STACK_LIMIT],
+    locals: &mut [u64; LOCAL_COUNT],
+    held: &[bool; MONITOR_LIMIT],
+    out: &mut List<u8>,
+) -> (Cursor, Stop)
+    requires run { IsRun task.program.now task.thread task.fuel from.pc from.top.depth from.made None }
+    requires spare { 21 * (task.fuel - from.made) ≤ out.old.spare }
+    ensures ran { RanOn task.entry.program.now task.entry.fuel task.entry.thread
+        (going from words.old locals.old held.now out.old.items)
+        (left result.0 result.1 words.new locals.new held.now out.new.items)
+        result.1 }
+    ensures run { IsRun task.entry.program.now task.entry.thread task.entry.fuel result.0.pc result.0.top.depth result.0.made (ended_by result.1) }
+    ensures names_cell { NamesCell task.entry.program.now result.1 }
+    ensures made { from.made ≤ result.0.made }
+    ensures spare { 21 * (task.entry.fuel - result.0.made) ≤ out.new.spare }
+    ensures used { out.new.spare + length out.new.items ≡ out.old.spare + length out.old.items }
+{
+    let mut at = from;
+    'instructions: loop {
+        let op = task.op(at.pc);
+        match execute(
+            op,
+            task.program,
+            at.pc,
+            words,
+            &mut at.top,
+            locals,
+            held,
+            out,
+        ) {
+            Next::Goes(next) => {
+                at.pc = next;
+                at.made += 1;
+                if at.made >= task.fuel {
+                    let end = End::OutOfSteps;
+                    return (at, Stop::Ended { end });
+                }
+            }
+            Next::Ends(end) => {
+                at.made += 1;
+                return (at, Stop::Ended { end });
+            }
+            Next::Stands(stop) => return (at, stop),
+        }
+    }
+}
