@@ -3,11 +3,9 @@ pub mod Advancing
 pub mod Beginning
 pub mod Begins
 pub mod Ending
-pub mod Examples
 pub mod Exits
 pub mod FewLogs
 pub mod Finishes
-pub mod FollowingExamples
 pub mod FollowsLogs
 pub mod Going
 pub mod Happening
@@ -15,10 +13,13 @@ pub mod HeldFlags
 pub mod InPlace
 pub mod LetGo
 pub mod LogsUsed
+pub mod NextSteps
 pub mod OddNumbers
+pub mod Reaching
 pub mod Row
 pub mod Settling
 pub mod StepPeople
+pub mod Strangers
 pub mod TraceLemmas
 pub mod Walked
 pub mod Walks

@@ -2,6 +2,7 @@
 use Rattle.std.proofs.Common.{◌≡◌, ℕ, zero, suc, ◌+◌, ◌-◌, ◌<◌, ◌≤◌, List, [], ◌∷◌, ◌++◌, Option, Some, None, Result, Ok, Err, length, refl, sym, ◌∙◌, ap, subst, arith, append_assoc, append-nil}
 use Rattle.std.proofs.lemmas.Option.{slice_get_past}
 use Rattle.std.specs.Prelude.{slice_get}
+use Rattle.stride_isa.specs.Changes.{applied}
 use Rattle.stride_isa.specs.Listing.{Listing, op_at}
 use Rattle.sc_machine.specs.declared.end.End.{End}
 use Rattle.sc_machine.specs.declared.stop.Stop.{Stop}
@@ -14,9 +15,9 @@ use Rattle.interleavings.specs.declared.event.Event.TheVariants as events
 use Rattle.interleavings.specs.declared.event.LogEntry.{LogEntry}
 use Rattle.interleavings.specs.declared.event.LogEntry.TheVariants as entries
 use Rattle.interleavings.specs.Events.{entry_of, log_of, word_given}
-use Rattle.interleavings.specs.Recording.{behind}
-use Rattle.interleavings.specs.Following.{Met, Makes, Over, Off, Followed, met_of, on_met, event_before, place_after, turns_after, follow_from, follow}
-use Rattle.interleavings.proofs.Walks.{behind-made, entry_at_seam, place_moved, front_moved}
+use Rattle.interleavings.specs.EventStep.{after_event}
+use Rattle.interleavings.specs.Following.{Met, Makes, Over, Off, Followed, met_of, on_met, event_before, place_after, turns_after, follow_from, follow, no_turns}
+use Rattle.interleavings.proofs.Walks.{after_event-made, entry_at_seam, place_moved, front_moved}
 
 -- a thread has made no more instructions than its fuel
 record IsWithin (fuel : ℕ) (s : Thread) : Type 0 where
@@ -42,9 +43,9 @@ settled-within : (p : Listing) (fuel t : ℕ) (s : Thread) → IsWithin fuel s �
 unfolding settled
 settled-within p fuel t s within = record { left = settled-has_fuel p fuel t s within.left; made = local_steps-made p fuel t (fuel - s.made) s within }
 
--- behind an event, before which it had not ended
-behind-within : (p : Listing) (fuel t : ℕ) (event : Event) (s : Thread) → s.ended ≡ None → IsWithin fuel s → IsWithin fuel (behind p fuel t event s)
-behind-within p fuel t event s unended within =
+-- after an event, before which it had not ended
+after_event-within : (p : Listing) (fuel t : ℕ) (event : Event) (s : Thread) → s.ended ≡ None → IsWithin fuel s → IsWithin fuel (after_event p fuel t event s)
+after_event-within p fuel t event s unended within =
     settled-within p fuel t (answered p fuel t (word_given event) s) (record { left = answered-has_fuel p fuel t (word_given event) s; made = omega (arith, within.left unended) })
 
 -- a thread that makes an event has not ended
@@ -56,14 +57,21 @@ makes_open (Some end) r (Some entry) turns event met = cc
 -- a thread is over only where no entry is next
 over_next : (stop : Stop) (next : Option LogEntry) (turns : ℕ → ℕ) → met_of stop next turns ≡ Over → next ≡ None
 over_next stop None turns met = refl
-over_next (stops.Read cell) (Some (entries.Read value bound)) turns met = cc
+over_next (stops.Read cell) (Some (entries.Read bound v)) turns met = cc
 over_next (stops.Read cell) (Some (entries.Write number)) turns met = cc
+over_next (stops.Read cell) (Some (entries.Update number old)) turns met = cc
 over_next (stops.Read cell) (Some (entries.Enter turn)) turns met = cc
-over_next (stops.Write cell value) (Some (entries.Read v bound)) turns met = cc
+over_next (stops.Write cell value) (Some (entries.Read bound v)) turns met = cc
 over_next (stops.Write cell value) (Some (entries.Write number)) turns met = cc
+over_next (stops.Write cell value) (Some (entries.Update number old)) turns met = cc
 over_next (stops.Write cell value) (Some (entries.Enter turn)) turns met = cc
-over_next (stops.Enter monitor) (Some (entries.Read value bound)) turns met = cc
+over_next (stops.Update cell change) (Some (entries.Read bound v)) turns met = cc
+over_next (stops.Update cell change) (Some (entries.Write number)) turns met = cc
+over_next (stops.Update cell change) (Some (entries.Update number old)) turns met = cc
+over_next (stops.Update cell change) (Some (entries.Enter turn)) turns met = cc
+over_next (stops.Enter monitor) (Some (entries.Read bound v)) turns met = cc
 over_next (stops.Enter monitor) (Some (entries.Write number)) turns met = cc
+over_next (stops.Enter monitor) (Some (entries.Update number old)) turns met = cc
 over_next (stops.Enter monitor) (Some (entries.Enter turn)) turns met = cc
 over_next (stops.Exit monitor) (Some entry) turns met = cc
 over_next (stops.Ended end) (Some entry) turns met = cc
@@ -88,16 +96,24 @@ next_of next one other met is = subst (λ (event : Event). IsNext next (entry_of
 
 makes_next : (stop : Stop) (next : Option LogEntry) (turns : ℕ → ℕ) (event : Event) → met_of stop next turns ≡ Makes event → IsNext next (entry_of event)
 makes_next (stops.Exit monitor) next turns event met = next_of next (events.Exit monitor (turns monitor)) event met tt
-makes_next (stops.Read cell) (Some (entries.Read value bound)) turns event met = next_of (Some (entries.Read value bound)) (events.Read cell value bound) event met refl
+makes_next (stops.Read cell) (Some (entries.Read bound v)) turns event met = next_of (Some (entries.Read bound v)) (events.Read cell v bound) event met refl
 makes_next (stops.Read cell) (Some (entries.Write number)) turns event met = absurd (off_makes event met)
+makes_next (stops.Read cell) (Some (entries.Update number old)) turns event met = absurd (off_makes event met)
 makes_next (stops.Read cell) (Some (entries.Enter turn)) turns event met = absurd (off_makes event met)
 makes_next (stops.Read cell) None turns event met = absurd (over_makes event met)
-makes_next (stops.Write cell value) (Some (entries.Read v bound)) turns event met = absurd (off_makes event met)
+makes_next (stops.Write cell value) (Some (entries.Read bound v)) turns event met = absurd (off_makes event met)
 makes_next (stops.Write cell value) (Some (entries.Write number)) turns event met = next_of (Some (entries.Write number)) (events.Write cell value number) event met refl
+makes_next (stops.Write cell value) (Some (entries.Update number old)) turns event met = absurd (off_makes event met)
 makes_next (stops.Write cell value) (Some (entries.Enter turn)) turns event met = absurd (off_makes event met)
 makes_next (stops.Write cell value) None turns event met = absurd (over_makes event met)
-makes_next (stops.Enter monitor) (Some (entries.Read value bound)) turns event met = absurd (off_makes event met)
+makes_next (stops.Update cell change) (Some (entries.Read bound v)) turns event met = absurd (off_makes event met)
+makes_next (stops.Update cell change) (Some (entries.Write number)) turns event met = absurd (off_makes event met)
+makes_next (stops.Update cell change) (Some (entries.Update number old)) turns event met = next_of (Some (entries.Update number old)) (events.Update cell old (applied change old) number) event met refl
+makes_next (stops.Update cell change) (Some (entries.Enter turn)) turns event met = absurd (off_makes event met)
+makes_next (stops.Update cell change) None turns event met = absurd (over_makes event met)
+makes_next (stops.Enter monitor) (Some (entries.Read bound v)) turns event met = absurd (off_makes event met)
 makes_next (stops.Enter monitor) (Some (entries.Write number)) turns event met = absurd (off_makes event met)
+makes_next (stops.Enter monitor) (Some (entries.Update number old)) turns event met = absurd (off_makes event met)
 makes_next (stops.Enter monitor) (Some (entries.Enter turn)) turns event met = next_of (Some (entries.Enter turn)) (events.Enter monitor turn) event met refl
 makes_next (stops.Enter monitor) None turns event met = absurd (over_makes event met)
 makes_next (stops.Ended end) (Some entry) turns event met = absurd (off_makes event met)
@@ -107,7 +123,7 @@ makes_next (stops.Ended end) None turns event met = absurd (over_makes event met
 abbrev used_by : Event → List LogEntry
 used_by event = log_of (event ∷ [])
 
--- the log behind the entry of an event: what is left without it
+-- the log after the entry of an event: what is left without it
 left_by : (front rest : List LogEntry) (entry : LogEntry) → slice_get (front ++ rest) (length front) ≡ Some entry → (others : List LogEntry) × (rest ≡ entry ∷ others)
 left_by front [] entry found = absurd (some_past found)
   where
@@ -124,8 +140,9 @@ left_by front (first ∷ others) entry found = (others, ap (λ e. e ∷ others) 
 -- an event uses its entry, which is the first of those that are left
 uses : (front rest : List LogEntry) (event : Event) → IsNext (slice_get (front ++ rest) (length front)) (entry_of event) → (others : List LogEntry) × (rest ≡ used_by event ++ others)
 uses front rest (events.Exit monitor turn) next = (rest, refl)
-uses front rest (events.Read cell value bound) next = left_by front rest (entries.Read value bound) next
+uses front rest (events.Read cell value bound) next = left_by front rest (entries.Read bound value) next
 uses front rest (events.Write cell value number) next = left_by front rest (entries.Write number) next
+uses front rest (events.Update cell old new number) next = left_by front rest (entries.Update number old) next
 uses front rest (events.Enter monitor turn) next = left_by front rest (entries.Enter turn) next
 
 -- nothing is left where no entry is next
@@ -164,22 +181,22 @@ module _ (p : Listing) (fuel t : ℕ) (log : List LogEntry) where
   Uses n = (front rest : List LogEntry) (turns : ℕ → ℕ) (s : Thread) (f : Followed) → log ≡ front ++ rest → IsWithin fuel s → fuel < n + s.made → follow_from p fuel t log n (length front) turns s ≡ ok f → log_of f.events ≡ rest
 
   -- by what is met
-  met_uses : (n : ℕ) (front rest : List LogEntry) (turns : ℕ → ℕ) (s : Thread) (f : Followed) → Uses n → log ≡ front ++ rest → IsWithin fuel s → fuel < suc n + s.made → (m : Met) → met_of (stop_of p t s) (slice_get log (length front)) turns ≡ m → on_met (length front) s (λ event. follow_from p fuel t log n (place_after event (length front)) (turns_after event turns) (behind p fuel t event s)) m ≡ ok f → log_of f.events ≡ rest
+  met_uses : (n : ℕ) (front rest : List LogEntry) (turns : ℕ → ℕ) (s : Thread) (f : Followed) → Uses n → log ≡ front ++ rest → IsWithin fuel s → fuel < suc n + s.made → (m : Met) → met_of (stop_of p t s) (slice_get log (length front)) turns ≡ m → on_met (length front) s (λ event. follow_from p fuel t log n (place_after event (length front)) (turns_after event turns) (after_event p fuel t event s)) m ≡ ok f → log_of f.events ≡ rest
   met_uses n front rest turns s f others whole within beyond Over e followed =
       let nothing : rest ≡ [] = none_left front rest (sym (ap (λ l. slice_get l (length front)) whole) ∙ over_next (stop_of p t s) (slice_get log (length front)) turns e) in
       ap log_of (sym (events_same (record { events = []; thread = stopped s }) f followed)) ∙ sym nothing
   met_uses n front rest turns s f others whole within beyond Off e followed = absurd (no_place (length front) f followed)
   met_uses n front rest turns s f others whole within beyond (Makes event) e followed =
-      let s' = behind p fuel t event s in
+      let s' = after_event p fuel t event s in
       let g = event_followed event (follow_from p fuel t log n (place_after event (length front)) (turns_after event turns) s') f followed in
       let unended = makes_open s.ended (row p (op_at p t s.pc) s.pc s.stack s.locals s.held) (slice_get log (length front)) turns event e in
       let next = makes_next (stop_of p t s) (slice_get log (length front)) turns event e in
       let used = uses front rest event (subst (λ (l : List LogEntry). IsNext (slice_get l (length front)) (entry_of event)) whole next) in
       let front' = front ++ used_by event in
-      let behind_it : log ≡ front' ++ used.0 = whole ∙ ap (λ l. front ++ l) used.1 ∙ sym (append_assoc front (used_by event) used.0) in
+      let after_it : log ≡ front' ++ used.0 = whole ∙ ap (λ l. front ++ l) used.1 ∙ sym (append_assoc front (used_by event) used.0) in
       let rest_followed : follow_from p fuel t log n (length front') (turns_after event turns) s' ≡ ok g.0 =
       sym (ap (λ place. follow_from p fuel t log n place (turns_after event turns) s') (place_moved front event)) ∙ g.1 in
-      let left : log_of g.0.events ≡ used.0 = others front' used.0 (turns_after event turns) s' g.0 behind_it (behind-within p fuel t event s unended within) (omega (arith, beyond, behind-made p fuel t event s)) rest_followed in
+      let left : log_of g.0.events ≡ used.0 = others front' used.0 (turns_after event turns) s' g.0 after_it (after_event-within p fuel t event s unended within) (omega (arith, beyond, after_event-made p fuel t event s)) rest_followed in
       ap log_of (sym g.2) ∙ log_before event g.0.events ∙ ap (λ l. used_by event ++ l) left ∙ sym used.1
 
   followed_uses : (n : ℕ) → Uses n
@@ -189,4 +206,4 @@ module _ (p : Listing) (fuel t : ℕ) (log : List LogEntry) where
 
 pub log_is_used : (p : Listing) (fuel t : ℕ) (log : List LogEntry) (f : Followed) → 1 ≤ fuel → follow p fuel t log ≡ Ok f → log_of f.events ≡ log
 unfolding follow
-log_is_used p fuel t log f some followed = followed_uses p fuel t log (fuel + 1) [] log (λ monitor. 0) (settled p fuel t start_thread) f refl (settled-within p fuel t start_thread (record { left = λ e. omega arith; made = omega arith })) (omega arith) followed
+log_is_used p fuel t log f some followed = followed_uses p fuel t log (fuel + 1) [] log no_turns (settled p fuel t start_thread) f refl (settled-within p fuel t start_thread (record { left = λ e. omega arith; made = omega arith })) (omega arith) followed
