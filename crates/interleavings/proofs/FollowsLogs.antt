@@ -18,7 +18,7 @@ use Rattle.interleavings.proofs.Walked.{HasWalked, start-alive}
 use Rattle.interleavings.proofs.Walks.{walks_followed}
 
 -- what following the log of a thread of a run comes to
-abbrev followed_in : Setting → Drive → ℕ → Followed
+abbrev pub followed_in : Setting → Drive → ℕ → Followed
 followed_in g d t = record { events = (acts_of g d.steps t).events; thread = stopped (thread_of d t) }
 
 -- a thread that stands at no exit did not do so before it gave up either
@@ -32,7 +32,7 @@ same_end s last P (inl same) = sym (ap stopped same)
 same_end s last P (inr (same, p)) = sym (ap stopped same)
 
 -- a thread of a run that stands at no exit is followed through its events by its log
-thread_followed : (g : Setting) (d : Drive) (t : ℕ) → t < length g.program.threads → IsRun g d → is_exit (stop_at g d t) ≡ false → follow g.program g.fuel t (log_of (acts_of g d.steps t).events) ≡ Ok (followed_in g d t)
+pub thread_followed : (g : Setting) (d : Drive) (t : ℕ) → t < length g.program.threads → IsRun g d → is_exit (stop_at g d t) ≡ false → follow g.program g.fuel t (log_of (acts_of g d.steps t).events) ≡ Ok (followed_in g d t)
 unfolding follow
 thread_followed g d t there run inside =
     let p = g.program in

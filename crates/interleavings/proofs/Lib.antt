@@ -6,6 +6,7 @@ pub mod Ending
 pub mod Exits
 pub mod FewLogs
 pub mod Finishes
+pub mod FollowedWalks
 pub mod FollowsLogs
 pub mod Going
 pub mod Happening
@@ -18,9 +19,11 @@ pub mod OddNumbers
 pub mod Reaching
 pub mod Row
 pub mod Settling
+pub mod ShortLogs
 pub mod StepPeople
 pub mod Strangers
 pub mod TraceLemmas
 pub mod Walked
 pub mod Walks
+pub mod WalksFollowed
 pub mod Within
