@@ -14,7 +14,8 @@ use Rattle.interleavings.specs.declared.event.Event.{Event}
 use Rattle.interleavings.specs.declared.kind.Kind.TheVariants as by
 use Rattle.interleavings.specs.AtomicStep.{Number, May, is_even, acts_after}
 use Rattle.interleavings.specs.History.{Step, newcomer, after, IsHistory}
-use Rattle.interleavings.specs.Recording.{Setting, state_of, acts_of, thread_of, gives_up, draws, begun, Among}
+use Rattle.interleavings.specs.Recording.{Setting, state_of, acts_of, gives_up, Among}
+use Rattle.interleavings.specs.Driving.{thread_of, draws, begun}
 use Rattle.interleavings.proofs.HeldFlags.{settled-held, none_held}
 use Rattle.interleavings.proofs.InPlace.{IsPhaseAt, patient_at}
 use Rattle.interleavings.proofs.Advances.{IsThreadInPlace, HasThreadWalked, IsRun}

@@ -1,20 +1,22 @@
--- The driver at its start.
+-- The simulation at its start.
 use Rattle.std.proofs.Common.{◌≡◌, ℕ, ◌+◌, ◌<◌, ◌≤◌, ◌∙◌, if◌then◌else◌, nat_lt, List, [], ◌∷◌, ◌++◌, length, map, slice_index, get_or, refl, sym, ap, subst, arith}
 use Rattle.std.specs.List.{range_with_len}
 use Rattle.std.proofs.lemmas.List.FromFn.{get_or-map-range_with_len, length-map-range_with_len, map-range_with_len_more}
 use Rattle.stride_isa.specs.Listing.{Listing, starts_of}
 use Rattle.sc_machine.specs.StandingThread.{IsThreadOf, Standing, started_at}
 use Rattle.sc_machine.specs.ThreadStep.{start_thread, settled}
-use Rattle.interleavings.specs.declared.core_words.Core.{Core}
-use Rattle.interleavings.specs.declared.driver.Driver.{Driver}
+use Rattle.interleavings.specs.declared.limits.TheConstants.{STEP_LIMIT}
+use Rattle.interleavings.specs.declared.core_state.Core.{Core}
+use Rattle.interleavings.specs.declared.simulation.Simulation.{Simulation}
 use Rattle.interleavings.specs.declared.kind.Kind.TheVariants as by
 use Rattle.interleavings.specs.declared.layout.Layout.{Layout}
 use Rattle.interleavings.specs.AtomicStep.{SharedWord, Value}
 use Rattle.interleavings.specs.CoreShows.{ShowsState, HasSameShape, CanHappen}
-use Rattle.interleavings.specs.DriverShows.{CanDraw, IsStartCore, Shows}
+use Rattle.interleavings.specs.SimulationShows.{CanDraw, IsStartCore, Shows}
 use Rattle.interleavings.specs.History.{Step, State, after, happens}
 use Rattle.interleavings.specs.Layout.{row_length}
-use Rattle.interleavings.specs.Recording.{Setting, begun, draws}
+use Rattle.interleavings.specs.Recording.{Setting}
+use Rattle.interleavings.specs.Driving.{begun, draws}
 use Rattle.interleavings.proofs.Going.{range_more, range_length}
 use Rattle.interleavings.proofs.Within.{after_within, state_wider}
 
@@ -50,7 +52,7 @@ can_draw core now threads who can shape inside shows = record {
   inside = tt;
   state = drawn_by can.starts who;
   shows = shows can.starts can.shows;
-  within = state_wider (drawn_by can.starts who) (length (draws (range_with_len 0 who) [])) 1073741824 (omega (arith, draws_length (range_with_len 0 who) [], range_length 0 who, can.few)) (after_within can.starts (draws (range_with_len 0 who) []));
+  within = state_wider (drawn_by can.starts who) (length (draws (range_with_len 0 who) [])) STEP_LIMIT (omega (arith, draws_length (range_with_len 0 who) [], range_length 0 who, can.few)) (after_within can.starts (draws (range_with_len 0 who) []));
 }
 
 pub same_shape : (one two three : Core) → HasSameShape one two → HasSameShape two three → HasSameShape one three
@@ -80,22 +82,22 @@ pub start_draws : (p : Listing) (core : Core) (threads : ℕ) → IsStartCore p 
 unfolding after
 start_draws p core threads start count few = record { whole = start.whole; people = start.people ∙ sym count; few = few; starts = starts_of p.decls; shows = start.shows }
 
-length_started : (driver : Driver) → driver.threads.items ≡ map (started_at driver.program.now driver.fuel) (range_with_len 0 (length driver.program.now.threads)) → length driver.threads.items ≡ length driver.program.now.threads
-length_started driver started = ap length started ∙ length-map-range_with_len (started_at driver.program.now driver.fuel) 0 (length driver.program.now.threads)
+length_started : (sim : Simulation) → sim.threads.items ≡ map (started_at sim.program.now sim.fuel) (range_with_len 0 (length sim.program.now.threads)) → length sim.threads.items ≡ length sim.program.now.threads
+length_started sim started = ap length started ∙ length-map-range_with_len (started_at sim.program.now sim.fuel) 0 (length sim.program.now.threads)
 
-pub driver_begun : (driver : Driver) (core : Core) (threads : ℕ) → IsStartCore driver.program.now core → threads ≡ length driver.program.now.threads → threads ≤ 16 → HasSameShape core driver.core → ((starts : List ℕ) → ShowsState core (after starts []) → ShowsState driver.core (drawn_by starts threads)) → driver.threads.items ≡ map (started_at driver.program.now driver.fuel) (range_with_len 0 (length driver.program.now.threads)) → Shows (setting driver.program.now driver.fuel driver.patience) driver (begun (setting driver.program.now driver.fuel driver.patience))
+pub simulation_begun : (sim : Simulation) (core : Core) (threads : ℕ) → IsStartCore sim.program.now core → threads ≡ length sim.program.now.threads → threads ≤ 16 → HasSameShape core sim.core → ((starts : List ℕ) → ShowsState core (after starts []) → ShowsState sim.core (drawn_by starts threads)) → sim.threads.items ≡ map (started_at sim.program.now sim.fuel) (range_with_len 0 (length sim.program.now.threads)) → Shows (setting sim.program.now sim.fuel sim.patience) sim (begun (setting sim.program.now sim.fuel sim.patience))
 unfolding begun after
-driver_begun driver core threads start count few shape shows started = record {
+simulation_begun sim core threads start count few shape shows started = record {
   program = refl;
   fuel = refl;
   patience = refl;
   few = omega (arith, count, few);
-  count = length_started driver started;
-  each = λ t s below. subst (λ (xs : List Standing). IsThreadOf driver.program.now driver.fuel t (get_or xs t s)) (sym started) (each_started driver.program.now driver.fuel (length driver.program.now.threads) t s (omega (arith, length_started driver started)));
-  threads = started_states driver.program.now driver.fuel (range_with_len 0 (length driver.program.now.threads)) ∙ sym (ap (map (λ (s : Standing). s.state)) started);
+  count = length_started sim started;
+  each = λ t s below. subst (λ (xs : List Standing). IsThreadOf sim.program.now sim.fuel t (get_or xs t s)) (sym started) (each_started sim.program.now sim.fuel (length sim.program.now.threads) t s (omega (arith, length_started sim started)));
+  threads = started_states sim.program.now sim.fuel (range_with_len 0 (length sim.program.now.threads)) ∙ sym (ap (map (λ (s : Standing). s.state)) started);
   whole = shape.words ∙ start.whole ∙ sym (ap (λ (l : Layout). row_length l.cells l.monitors) shape.layout);
   cells = ap (λ (l : Layout). l.cells) shape.layout ∙ start.cells;
   monitors = ap (λ (l : Layout). l.monitors) shape.layout ∙ start.monitors;
   people = shape.people ∙ start.people;
-  state = subst (λ (n : ℕ). ShowsState driver.core (drawn_by (starts_of driver.program.now.decls) n)) count (shows (starts_of driver.program.now.decls) start.shows);
+  state = subst (λ (n : ℕ). ShowsState sim.core (drawn_by (starts_of sim.program.now.decls) n)) count (shows (starts_of sim.program.now.decls) start.shows);
 }

@@ -12,57 +12,20 @@ use Rattle.sc_machine.specs.ThreadStep.{Thread, end_of}
 use Rattle.sc_machine.specs.Schedule.{stopped, thread_numbers}
 use Rattle.interleavings.specs.declared.acts.Acts.{Acts}
 use Rattle.interleavings.specs.declared.driven.Driven.{Driven}
-use Rattle.interleavings.specs.declared.driver.Driver.{Driver}
+use Rattle.interleavings.specs.declared.simulation.Simulation.{Simulation}
 use Rattle.interleavings.specs.declared.event.LogEntry.{LogEntry}
 use Rattle.interleavings.specs.AtomicStep.{SharedWord, Value}
 use Rattle.interleavings.specs.DrivenSeen.{recording_seen}
-use Rattle.interleavings.specs.DriverShows.{CanGo, Makes, Shows, settled_all}
+use Rattle.interleavings.specs.Driving.{Drive, advance_all, begun, driven, recording_of, settle_all, stranger, whole_run}
+use Rattle.interleavings.specs.SimulationShows.{CanGo, Makes, Shows}
 use Rattle.interleavings.specs.Events.{log_of}
 use Rattle.interleavings.specs.Layout.{index_of}
-use Rattle.interleavings.specs.Recording.{Drive, Recording, Setting, acts_of, state_of, advance_all, begun, driven, recording_of, settle_all, stranger, whole_run}
+use Rattle.interleavings.specs.Recording.{Recording, Setting, acts_of, state_of}
+use Rattle.interleavings.specs.declared.limits.TheConstants.{ORDER_LIMIT, FUEL_LIMIT}
+use Rattle.interleavings.specs.Driving.{Drive, advance_all, begun, driven, recording_of, settle_all, stranger, whole_run}
 use Rattle.interleavings.proofs.Begins.{draws_length}
 use Rattle.interleavings.proofs.Going.{advance_all_steps, range_length, range_more}
-
-le_true : (a b : ℕ) → a ≤ b → nat_le a b ≡ true
-le_true a b le = grind (arith, nat_tests)
-
-le_false : (a b : ℕ) → b < a → nat_le a b ≡ false
-le_false a b lt = grind (arith, nat_tests)
-
--- no member but the one at i is a stranger
-pub stranger_at : (threads : ℕ) (order : List ℕ) (i : ℕ) → i < length order → ((k : ℕ) → k < i → get_or order k 0 < threads) → threads ≤ get_or order i 0 → stranger threads order ≡ Some i
-unfolding stranger
-stranger_at threads [] i inside known at = absurd (omega arith)
-stranger_at threads (t ∷ ts) zero inside known at = ap (λ b. if b then Some 0 else option_map (λ place. place + 1) (stranger threads ts)) (le_true threads t at)
-stranger_at threads (t ∷ ts) (suc i) inside known at =
-    ap (λ b. if b then Some 0 else option_map (λ place. place + 1) (stranger threads ts)) (le_false threads t (known 0 (omega arith)))
-    ∙ ap (option_map (λ place. place + 1)) (stranger_at threads ts i (omega arith) (λ k lt. known (suc k) (omega arith)) at)
-    ∙ ap Some (add-one i)
-
-pub no_stranger : (threads : ℕ) (order : List ℕ) → ((k : ℕ) → k < length order → get_or order k 0 < threads) → stranger threads order ≡ None
-unfolding stranger
-no_stranger threads [] known = refl
-no_stranger threads (t ∷ ts) known =
-    ap (λ b. if b then Some 0 else option_map (λ place. place + 1) (stranger threads ts)) (le_false threads t (known 0 (omega arith)))
-    ∙ ap (option_map (λ place. place + 1)) (no_stranger threads ts (λ k lt. known (suc k) (omega arith)))
-
-none_behind : (o : Option ℕ) → option_map (λ place. place + 1) o ≡ None → o ≡ None
-none_behind None e = refl
-none_behind (Some place) e = cc
-
-first_known : (threads t : ℕ) → nat_le threads t ≡ false → t < threads
-first_known threads t e = grind (arith, nat_tests)
-
--- where the first is no stranger and there is none behind it
-known_first : (b : Bool) (threads t : ℕ) (found : Option ℕ) → nat_le threads t ≡ b → (if b then Some 0 else option_map (λ place. place + 1) found) ≡ None → (t < threads) × (found ≡ None)
-known_first true threads t found e none = cc
-known_first false threads t found e none = (first_known threads t e, none_behind found none)
-
-pub all_known : (threads : ℕ) (order : List ℕ) → stranger threads order ≡ None → (k : ℕ) → k < length order → get_or order k 0 < threads
-unfolding stranger
-all_known threads [] none k lt = absurd (omega arith)
-all_known threads (t ∷ ts) none zero lt = (known_first (nat_le threads t) threads t (stranger threads ts) refl none).0
-all_known threads (t ∷ ts) none (suc k) lt = all_known threads ts (known_first (nat_le threads t) threads t (stranger threads ts) refl none).1 k (omega arith)
+use Rattle.interleavings.proofs.Reaching.{reached-begun}
 
 -- one more value of a cell
 pub values_more : (row : List ℕ) (cells i place x : ℕ) (values values' : List ℕ) → values' ≡ values ++ x ∷ [] → values ≡ map (λ cell. slice_index row (index_of cells (Value cell))) (range_with_len 0 i) → place ≡ index_of cells (Value i) → place < length row → x ≡ get_or row place x → values' ≡ map (λ cell. slice_index row (index_of cells (Value cell))) (range_with_len 0 (i + 1))
@@ -95,10 +58,10 @@ ends_kept [] = refl
 ends_kept (s ∷ ss) = ap (λ xs. end_of s.state ∷ xs) (ends_kept ss)
 
 -- the four parts of a recording
-pub recorded_parts : (g : Setting) (driver : Driver) (d : Drive) (r : Driven) → Shows g driver d → map (λ (log : Listed LogEntry). log.items) r.logs.items ≡ map (λ (acts : Acts). log_of acts.events) driver.core.people.items → map (λ (output : Listed ℕ). output.items) r.outputs.items ≡ map (λ (s : Standing). s.state.out) driver.threads.items → r.ends.items ≡ map (λ (s : Standing). end_of s.state) driver.threads.items → r.last_values.items ≡ map (λ cell. slice_index driver.core.words.items (index_of driver.core.layout.cells (Value cell))) (range_with_len 0 driver.core.layout.cells) → recording_seen r ≡ recording_of g (record { steps = d.steps; threads = map stopped d.threads })
+pub recorded_parts : (g : Setting) (sim : Simulation) (d : Drive) (r : Driven) → Shows g sim d → map (λ (log : Listed LogEntry). log.items) r.logs.items ≡ map (λ (acts : Acts). log_of acts.events) sim.core.people.items → map (λ (output : Listed ℕ). output.items) r.outputs.items ≡ map (λ (s : Standing). s.state.out) sim.threads.items → r.ends.items ≡ map (λ (s : Standing). end_of s.state) sim.threads.items → r.last_values.items ≡ map (λ cell. slice_index sim.core.words.items (index_of sim.core.layout.cells (Value cell))) (range_with_len 0 sim.core.layout.cells) → recording_seen r ≡ recording_of g (record { steps = d.steps; threads = map stopped d.threads })
 unfolding recording_of
-recorded_parts g driver d r shows logs outputs ends values =
-    let people : List Acts = driver.core.people.items in
+recorded_parts g sim d r shows logs outputs ends values =
+    let people : List Acts = sim.core.people.items in
     let acts : ℕ → Acts = acts_of g d.steps in
     let words : SharedWord → ℕ = (state_of g d.steps).words in
     let logs_are : map (λ (log : Listed LogEntry). log.items) r.logs.items ≡ map (λ t. log_of (acts t).events) (thread_numbers g.program) =
@@ -107,11 +70,11 @@ recorded_parts g driver d r shows logs outputs ends values =
     (λ k e lt. let same : k ≡ 0 + k = omega arith in ap (λ (a : Acts). log_of a.events) (shows.state.people k e lt) ∙ ap (λ n. log_of (acts n).events) same)
     ∙ ap (λ n. map (λ t. log_of (acts t).events) (range_with_len 0 n)) shows.people in
     let outputs_are : map (λ (output : Listed ℕ). output.items) r.outputs.items ≡ map (λ (s : Thread). s.out) (map stopped d.threads) =
-    outputs ∙ outputs_kept driver.threads.items ∙ ap (λ ts. map (λ (s : Thread). s.out) (map stopped ts)) (sym shows.threads) in
-    let ends_are : r.ends.items ≡ map end_of (map stopped d.threads) = ends ∙ ends_kept driver.threads.items ∙ ap (λ ts. map end_of (map stopped ts)) (sym shows.threads) in
+    outputs ∙ outputs_kept sim.threads.items ∙ ap (λ ts. map (λ (s : Thread). s.out) (map stopped ts)) (sym shows.threads) in
+    let ends_are : r.ends.items ≡ map end_of (map stopped d.threads) = ends ∙ ends_kept sim.threads.items ∙ ap (λ ts. map end_of (map stopped ts)) (sym shows.threads) in
     let values_are : r.last_values.items ≡ map (λ cell. words (Value cell)) (range_with_len 0 (cell_count g.program.decls)) =
     values
-    ∙ in_range (λ cell. slice_index driver.core.words.items (index_of driver.core.layout.cells (Value cell))) (λ cell. words (Value cell)) 0 driver.core.layout.cells (λ k lt. shows.state.words (Value k) (omega arith))
+    ∙ in_range (λ cell. slice_index sim.core.words.items (index_of sim.core.layout.cells (Value cell))) (λ cell. words (Value cell)) 0 sim.core.layout.cells (λ k lt. shows.state.words (Value k) (omega arith))
     ∙ ap (λ n. map (λ cell. words (Value cell)) (range_with_len 0 n)) shows.cells in
     ap (λ x. record { logs = x; outputs = map (λ (output : Listed ℕ). output.items) r.outputs.items; ends = r.ends.items; last_values = r.last_values.items }) logs_are
     ∙ ap (λ x. record { logs = map (λ t. log_of (acts t).events) (thread_numbers g.program); outputs = x; ends = r.ends.items; last_values = r.last_values.items }) outputs_are
@@ -119,22 +82,22 @@ recorded_parts g driver d r shows logs outputs ends values =
     ∙ ap (λ x. record { logs = map (λ t. log_of (acts t).events) (thread_numbers g.program); outputs = map (λ (s : Thread). s.out) (map stopped d.threads); ends = map end_of (map stopped d.threads); last_values = x }) values_are
 
 -- what the whole of a recording's code came to
-module _ (g : Setting) (order : List ℕ) (start followed settled : Driver) (begins : Shows g start (begun g)) where
+module _ (g : Setting) (order : List ℕ) (start followed settled : Simulation) (begins : Shows g start (begun g)) where
   begun_steps : length (begun g).steps ≤ 16
   unfolding begun
   begun_steps = omega (arith, draws_length (thread_numbers g.program) [], range_length 0 (length g.program.threads), begins.few)
 
-  pub follow_may : length order ≤ 134217728 → CanGo start (length order)
-  follow_may short = record { setting = g; drive = begun g; shows = begins; few = omega (arith, begun_steps) }
+  pub follow_may : length order ≤ ORDER_LIMIT → CanGo start (length order)
+  follow_may short = record { setting = g; drive = begun g; reached = reached-begun g; shows = begins; few = omega (arith, begun_steps) }
 
-  pub settle_may : length order ≤ 134217728 → g.fuel ≤ 1000000 → Makes (λ g. advance_all g order) start followed → CanGo followed (16 * (6 + followed.fuel))
-  settle_may short small follows =
+  pub settle_may : length order ≤ ORDER_LIMIT → g.fuel ≤ FUEL_LIMIT → stranger (length g.program.threads) order ≡ None → Makes (λ g. advance_all g order) start followed → CanGo followed (48 * (followed.fuel + 3))
+  settle_may short small known follows =
       let shown : Shows g followed (advance_all g order (begun g)) = follows g (begun g) begins in
-      record { setting = g; drive = advance_all g order (begun g); shows = shown; few = omega (arith, begun_steps, advance_all_steps g order (begun g), shown.fuel) }
+      record { setting = g; drive = advance_all g order (begun g); reached = record { order = order; known = known; same = refl }; shows = shown; few = omega (arith, begun_steps, advance_all_steps g order (begun g), shown.fuel) }
 
-  pub settled_shows : Makes (λ g. advance_all g order) start followed → Makes settled_all followed settled → Shows g settled (settled_all g (advance_all g order (begun g)))
+  pub settled_shows : Makes (λ g. advance_all g order) start followed → Makes settle_all followed settled → Shows g settled (settle_all g (advance_all g order (begun g)))
   settled_shows follows settles = settles g (advance_all g order (begun g)) (follows g (begun g) begins)
 
-  pub whole_driven : (r : Recording) → r ≡ recording_of g (record { steps = (settled_all g (advance_all g order (begun g))).steps; threads = map stopped (settled_all g (advance_all g order (begun g))).threads }) → r ≡ driven g order
-  unfolding driven whole_run settle_all
+  pub whole_driven : (r : Recording) → r ≡ recording_of g (record { steps = (settle_all g (advance_all g order (begun g))).steps; threads = map stopped (settle_all g (advance_all g order (begun g))).threads }) → r ≡ driven g order
+  unfolding driven whole_run
   whole_driven r e = e

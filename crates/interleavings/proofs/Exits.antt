@@ -10,10 +10,13 @@ use Rattle.sc_machine.specs.ThreadStep.{Thread, Row, start_thread, row, holds, n
 use Rattle.interleavings.specs.declared.event.Event.{Event}
 use Rattle.interleavings.specs.declared.event.Event.TheVariants as events
 use Rattle.interleavings.specs.AtomicStep.{held_turn, turn_or_zero}
-use Rattle.interleavings.specs.Recording.{Drive, Setting, acts_of, behind, thread_of, is_exit, advanced_at, advance}
+use Rattle.interleavings.specs.Recording.{Setting, acts_of}
+use Rattle.interleavings.specs.Driving.{Drive, thread_of, next_step, stepped_if, advance}
+use Rattle.interleavings.specs.Walking.{is_exit}
+use Rattle.interleavings.specs.EventStep.{after_event}
 use Rattle.interleavings.proofs.Advances.{IsRun, answered_flags}
 use Rattle.interleavings.proofs.HeldFlags.{none_held}
-use Rattle.interleavings.proofs.Walks.{IsAlive, behind-made}
+use Rattle.interleavings.proofs.Walks.{IsAlive, after_event-made}
 
 -- a thread that stands at an exit has not ended
 not_ended : (ended : Option End) (r : Row) (monitor : ℕ) → stop_in (now_unless ended r) ≡ stops.Exit monitor → ended ≡ None
@@ -28,16 +31,16 @@ exit_has_fuel g t s monitor e (inr start) =
     absurd (true≢false (sym holding ∙ ap (λ (x : Thread). holds x.held monitor) start ∙ none_held 64 monitor))
 
 -- by the stop
-advanced_at-falls : (g : Setting) (t : ℕ) (stop : Stop) (d : Drive) → t < length g.program.threads → stop_of g.program t (thread_of d t) ≡ stop → is_exit stop ≡ true → IsRun g d → g.fuel - (thread_of (advanced_at g t stop d) t).made < g.fuel - (thread_of d t).made
-advanced_at-falls g t (stops.Exit monitor) d there e exit run =
+advanced-falls : (g : Setting) (t : ℕ) (stop : Stop) (d : Drive) → t < length g.program.threads → stop_of g.program t (thread_of d t) ≡ stop → is_exit stop ≡ true → IsRun g d → g.fuel - (thread_of (stepped_if g (next_step t stop (acts_of g d.steps t).phase) d) t).made < g.fuel - (thread_of d t).made
+advanced-falls g t (stops.Exit monitor) d there e exit run =
     let s = thread_of d t in
     let event : Event = events.Exit monitor (turn_or_zero (held_turn monitor (acts_of g d.steps t).held)) in
-    let made : (thread_of (advanced_at g t (stops.Exit monitor) d) t).made ≡ (behind g.program g.fuel t event s).made =
-    ap (λ (x : Thread). x.made) (get_or-set_same d.threads t (behind g.program g.fuel t event s) start_thread (omega (arith, there, run.count))) in
-    omega (arith, made, behind-made g.program g.fuel t event s, exit_has_fuel g t s monitor e (run.walked t there).alive)
-advanced_at-falls g t stop d there e exit run = absurd (true≢false (sym exit))
+    let made : (thread_of (stepped_if g (next_step t (stops.Exit monitor) (acts_of g d.steps t).phase) d) t).made ≡ (after_event g.program g.fuel t event s).made =
+    ap (λ (x : Thread). x.made) (get_or-set_same d.threads t (after_event g.program g.fuel t event s) start_thread (omega (arith, there, run.count))) in
+    omega (arith, made, after_event-made g.program g.fuel t event s, exit_has_fuel g t s monitor e (run.walked t there).alive)
+advanced-falls g t stop d there e exit run = absurd (true≢false (sym exit))
 
 -- the exit leaves less of its fuel
 pub exit_falls : (g : Setting) (t : ℕ) (d : Drive) → t < length g.program.threads → is_exit (stop_of g.program t (thread_of d t)) ≡ true → IsRun g d → g.fuel - (thread_of (advance g t d) t).made < g.fuel - (thread_of d t).made
 unfolding advance
-exit_falls g t d there exit run = advanced_at-falls g t (stop_of g.program t (thread_of d t)) d there refl exit run
+exit_falls g t d there exit run = advanced-falls g t (stop_of g.program t (thread_of d t)) d there refl exit run

@@ -4,7 +4,8 @@ use Rattle.std.proofs.lemmas.List.{length-map}
 use Rattle.std.proofs.lemmas.List.FromFn.{length-range_with_len}
 use Rattle.interleavings.specs.declared.driven.Driven.{Driven}
 use Rattle.interleavings.specs.DrivenSeen.{recording_seen}
-use Rattle.interleavings.specs.Recording.{Recording, Setting, driven, recording_of}
+use Rattle.interleavings.specs.Recording.{Recording, Setting}
+use Rattle.interleavings.specs.Driving.{driven, recording_of}
 
 length-logs : (g : Setting) (order : List ℕ) → length (driven g order).logs ≡ length g.program.threads
 unfolding driven recording_of

@@ -2,20 +2,22 @@
 use Rattle.std.proofs.Common.{◌≡◌, ◌≢◌, ℕ, ◌+◌, ◌*◌, ◌/◌, ◌==◌, Bool, true, false, cond, List, [], ◌∷◌, Option, Some, None, refl, sym, ◌∙◌, ap, inl, inr}
 use Rattle.std.proofs.lemmas.Bool.{true≢false, cases_eq, eqb-true, ne_eqb}
 use Rattle.std.specs.Prelude.{IsSome, not, filter}
+use Rattle.stride_isa.specs.Changes.{applied}
 use Rattle.sc_machine.specs.declared.stop.Stop.{Stop}
 use Rattle.sc_machine.specs.declared.stop.Stop.TheVariants as stops
 use Rattle.sc_machine.specs.ThreadRun.{IsShared}
 use Rattle.interleavings.specs.declared.acts.HeldTurn.{HeldTurn}
 use Rattle.interleavings.specs.declared.acts.OddLooks.{OddLooks}
 use Rattle.interleavings.specs.declared.acts.Phase.{Phase}
-use Rattle.interleavings.specs.declared.acts.Phase.TheVariants.{Idle, Loaded, InTurn, Numbered, Marked, Stored, Completed, Looked}
+use Rattle.interleavings.specs.declared.acts.Phase.TheVariants.{Idle, Loaded, Numbered, Marked, Fetched, Stored, Looked}
 use Rattle.interleavings.specs.declared.event.Event.{Event}
 use Rattle.interleavings.specs.declared.event.Event.TheVariants as events
 use Rattle.interleavings.specs.AtomicStep.{held_turn, turn_or_zero, is_even, read_if, entered_if, finished_by, held_if, held_after}
 use Rattle.interleavings.specs.Following.{Makes, turns_after}
-use Rattle.interleavings.specs.Recording.{next_kind, at_of, is_exit}
+use Rattle.interleavings.specs.Driving.{at_of}
+use Rattle.interleavings.specs.Walking.{is_exit, IsMet}
 use Rattle.interleavings.proofs.InPlace.{IsPhaseAt}
-use Rattle.interleavings.proofs.Walks.{IsMet}
+use Rattle.interleavings.proofs.NextSteps.{kind_at}
 
 -- a monitor is held for the turn of the last entry into it
 abbrev pub HasEntered : List HeldTurn → (ℕ → ℕ) → Type 0
@@ -74,32 +76,37 @@ left_entered held turns monitor entered m u e = elim (cases_eq m monitor) [
     some_is_not_none u e = cc
 
 -- a read finishes where the number is even
-read_met : (b : Bool) (cell at value bound : ℕ) (turns : ℕ → ℕ) (held : List HeldTurn) → cell ≡ at → HasEntered held turns → IsFinished (stops.Read cell) turns held held (read_if b (Loaded at value) bound)
-read_met true cell at value bound turns held same entered = (ap (λ c. Makes (events.Read c value bound)) same, entered)
-read_met false cell at value bound turns held same entered = (refl, refl)
+read_finishes : (b : Bool) (cell at value bound : ℕ) (turns : ℕ → ℕ) (held : List HeldTurn) → cell ≡ at → HasEntered held turns → IsFinished (stops.Read cell) turns held held (read_if b (Loaded at value) bound)
+read_finishes true cell at value bound turns held same entered = (ap (λ c. Makes (events.Read c value bound)) same, entered)
+read_finishes false cell at value bound turns held same entered = (refl, refl)
 
 -- an entry where the monitor is as it was seen
-entry_met : (b : Bool) (monitor turn : ℕ) (turns : ℕ → ℕ) (held : List HeldTurn) → HasEntered held turns → IsFinished (stops.Enter monitor) turns held (held_if b (record { mon = monitor; turn = turn }) held) (entered_if b monitor turn)
-entry_met true monitor turn turns held entered = (refl, entered_last held turns monitor turn entered)
-entry_met false monitor turn turns held entered = (refl, refl)
+entry_finishes : (b : Bool) (monitor turn : ℕ) (turns : ℕ → ℕ) (held : List HeldTurn) → HasEntered held turns → IsFinished (stops.Enter monitor) turns held (held_if b (record { mon = monitor; turn = turn }) held) (entered_if b monitor turn)
+entry_finishes true monitor turn turns held entered = (refl, entered_last held turns monitor turn entered)
+entry_finishes false monitor turn turns held entered = (refl, refl)
 
 -- an exit of a monitor that is held has the turn of the last entry
-exit_met : (monitor : ℕ) (turns : ℕ → ℕ) (held : List HeldTurn) (turn : Option ℕ) → held_turn monitor held ≡ turn → IsSome turn → HasEntered held turns → IsMet (stops.Exit monitor) turns (events.Exit monitor (turn_or_zero turn))
-exit_met monitor turns held (Some turn) e there entered = ap (λ u. Makes (events.Exit monitor u)) (entered monitor turn e)
-exit_met monitor turns held None e there entered = absurd (true≢false (sym there))
+exit_finishes : (monitor : ℕ) (turns : ℕ → ℕ) (held : List HeldTurn) (turn : Option ℕ) → held_turn monitor held ≡ turn → IsSome turn → HasEntered held turns → IsMet (stops.Exit monitor) turns (events.Exit monitor (turn_or_zero turn))
+exit_finishes monitor turns held (Some turn) e there entered = ap (λ u. Makes (events.Exit monitor u)) (entered monitor turn e)
+exit_finishes monitor turns held None e there entered = absurd (true≢false (sym there))
 
 -- by the shared instruction and the phase
-pub step_finishes : (stop : Stop) (name : Option ℕ) (phase : Phase) (done : List Event) (held : List HeldTurn) (looks : Option OddLooks) (turns : ℕ → ℕ) (met : ℕ) → IsShared stop → IsPhaseAt phase stop → ((monitor : ℕ) → stop ≡ stops.Exit monitor → IsSome (held_turn monitor held)) → HasEntered held turns → IsFinished stop turns held (held_after (next_kind stop phase) (at_of stop) phase held met) (finished_by (next_kind stop phase) (at_of stop) (record { name = name; phase = phase; events = done; held = held; looks = looks }) met)
+pub step_finishes : (stop : Stop) (name : Option ℕ) (phase : Phase) (done : List Event) (held : List HeldTurn) (looks : Option OddLooks) (turns : ℕ → ℕ) (met : ℕ) → IsShared stop → IsPhaseAt phase stop → ((monitor : ℕ) → stop ≡ stops.Exit monitor → IsSome (held_turn monitor held)) → HasEntered held turns → IsFinished stop turns held (held_after (kind_at stop phase) (at_of stop) phase held met) (finished_by (kind_at stop phase) (at_of stop) (record { name = name; phase = phase; events = done; held = held; looks = looks }) met)
 step_finishes (stops.Read cell) name Idle done held looks turns met shared fits holds entered = (refl, refl)
-step_finishes (stops.Read cell) name (Loaded at value) done held looks turns met shared fits holds entered = read_met (is_even met) cell at value (met / 2) turns held fits entered
+step_finishes (stops.Read cell) name (Loaded at value) done held looks turns met shared fits holds entered = read_finishes (is_even met) cell at value (met / 2) turns held fits entered
 step_finishes (stops.Write cell value) name Idle done held looks turns met shared fits holds entered = (refl, refl)
-step_finishes (stops.Write cell value) name (InTurn at) done held looks turns met shared fits holds entered = (refl, refl)
 step_finishes (stops.Write cell value) name (Numbered at n) done held looks turns met shared fits holds entered = (refl, refl)
 step_finishes (stops.Write cell value) name (Marked at n) done held looks turns met shared fits holds entered = (refl, refl)
-step_finishes (stops.Write cell value) name (Stored at n word) done held looks turns met shared fits holds entered = (refl, refl)
-step_finishes (stops.Write cell value) name (Completed at n word) done held looks turns met shared fits holds entered = (ap (λ c. Makes (events.Write c value (n + 1))) fits.0 ∙ ap (λ v. Makes (events.Write at v (n + 1))) fits.1, entered)
+step_finishes (stops.Write cell value) name (Stored at n None word) done held looks turns met shared fits holds entered = (ap (λ c. Makes (events.Write c value (n + 1))) fits.0 ∙ ap (λ v. Makes (events.Write at v (n + 1))) fits.1, entered)
+step_finishes (stops.Write cell value) name (Stored at n (Some old) word) done held looks turns met shared fits holds entered = absurd fits.1
+step_finishes (stops.Update cell change) name Idle done held looks turns met shared fits holds entered = (refl, refl)
+step_finishes (stops.Update cell change) name (Numbered at n) done held looks turns met shared fits holds entered = (refl, refl)
+step_finishes (stops.Update cell change) name (Marked at n) done held looks turns met shared fits holds entered = (refl, refl)
+step_finishes (stops.Update cell change) name (Fetched at n old) done held looks turns met shared fits holds entered = (refl, refl)
+step_finishes (stops.Update cell change) name (Stored at n (Some old) word) done held looks turns met shared fits holds entered = (ap (λ c. Makes (events.Update c old (applied change old) (n + 1))) fits.0 ∙ ap (λ v. Makes (events.Update at old v (n + 1))) fits.1, entered)
+step_finishes (stops.Update cell change) name (Stored at n None word) done held looks turns met shared fits holds entered = absurd fits.1
 step_finishes (stops.Enter monitor) name Idle done held looks turns met shared fits holds entered = (refl, refl)
-step_finishes (stops.Enter monitor) name (Looked at turn) done held looks turns met shared fits holds entered = entry_met (met == 2 * turn) monitor (turn + 1) turns held entered
-step_finishes (stops.Exit monitor) name Idle done held looks turns met shared fits holds entered = (exit_met monitor turns held (held_turn monitor held) refl (holds monitor refl) entered, left_entered held turns monitor entered)
+step_finishes (stops.Enter monitor) name (Looked at turn) done held looks turns met shared fits holds entered = entry_finishes (met == 2 * turn) monitor (turn + 1) turns held entered
+step_finishes (stops.Exit monitor) name Idle done held looks turns met shared fits holds entered = (exit_finishes monitor turns held (held_turn monitor held) refl (holds monitor refl) entered, left_entered held turns monitor entered)
 step_finishes (stops.Ended end) name phase done held looks turns met shared fits holds entered = absurd shared
 step_finishes stop name phase done held looks turns met shared fits holds entered = absurd fits

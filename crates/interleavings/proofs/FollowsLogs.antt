@@ -8,16 +8,17 @@ use Rattle.sc_machine.specs.ThreadStep.{Thread, start_thread, settled, stop_of, 
 use Rattle.sc_machine.specs.Schedule.{stopped, thread_numbers}
 use Rattle.interleavings.specs.declared.event.LogEntry.{LogEntry}
 use Rattle.interleavings.specs.Events.{log_of}
-use Rattle.interleavings.specs.Following.{Followed, thread_before, follow, follow_all_from, follow_all, IsFollowed}
-use Rattle.interleavings.specs.Recording.{Drive, Setting, acts_of, thread_of, begun, advance_all, is_exit, settle_all, whole_run, recording_of, driven, stranger}
-use Rattle.interleavings.proofs.Advances.{IsRun, advance_all-run}
-use Rattle.interleavings.proofs.Beginning.{begun-run}
-use Rattle.interleavings.proofs.Settling.{at_last, settled-resting, stop_at}
-use Rattle.interleavings.proofs.Walked.{HasWalked, no_turns, start-alive}
+use Rattle.interleavings.specs.Following.{Followed, no_turns, thread_before, follow, follow_all_from, follow_all}
+use Rattle.interleavings.specs.Recording.{Setting, acts_of, IsFollowed}
+use Rattle.interleavings.specs.Driving.{Drive, thread_of, whole_run, recording_of, driven, stranger}
+use Rattle.interleavings.specs.Walking.{is_exit}
+use Rattle.interleavings.proofs.Advances.{IsRun}
+use Rattle.interleavings.proofs.Settling.{settled_run, order-resting, stop_at}
+use Rattle.interleavings.proofs.Walked.{HasWalked, start-alive}
 use Rattle.interleavings.proofs.Walks.{walks_followed}
 
 -- what following the log of a thread of a run comes to
-abbrev followed_in : Setting → Drive → ℕ → Followed
+abbrev pub followed_in : Setting → Drive → ℕ → Followed
 followed_in g d t = record { events = (acts_of g d.steps t).events; thread = stopped (thread_of d t) }
 
 -- a thread that stands at no exit did not do so before it gave up either
@@ -31,7 +32,7 @@ same_end s last P (inl same) = sym (ap stopped same)
 same_end s last P (inr (same, p)) = sym (ap stopped same)
 
 -- a thread of a run that stands at no exit is followed through its events by its log
-thread_followed : (g : Setting) (d : Drive) (t : ℕ) → t < length g.program.threads → IsRun g d → is_exit (stop_at g d t) ≡ false → follow g.program g.fuel t (log_of (acts_of g d.steps t).events) ≡ Ok (followed_in g d t)
+pub thread_followed : (g : Setting) (d : Drive) (t : ℕ) → t < length g.program.threads → IsRun g d → is_exit (stop_at g d t) ≡ false → follow g.program g.fuel t (log_of (acts_of g d.steps t).events) ≡ Ok (followed_in g d t)
 unfolding follow
 thread_followed g d t there run inside =
     let p = g.program in
@@ -61,12 +62,12 @@ events_alike g d (t ∷ ns) = ap (λ rest. (acts_of g d.steps t).events ∷ rest
 
 -- what an order gives is followed through the events of its run's steps
 pub driven-followed : (g : Setting) (order : List ℕ) → stranger (length g.program.threads) order ≡ None → IsFollowed g (driven g order) (whole_run g order).steps
-unfolding driven recording_of whole_run settle_all follow_all
+unfolding driven recording_of whole_run follow_all
 driven-followed g order known =
     let n = length g.program.threads in
     let ts = thread_numbers g.program in
-    let d = at_last g (advance_all g order (begun g)) in
-    let settles = settled-resting g (advance_all g order (begun g)) (advance_all-run g order (begun g) known (begun-run g)) in
+    let d = settled_run g order in
+    let settles = order-resting g order known in
     let run : IsRun g d = settles.0.0 in
     let threads : d.threads ≡ map (thread_of d) ts = fill_by_all (thread_of d) d.threads n start_thread run.count (λ t below. refl) in
     record {

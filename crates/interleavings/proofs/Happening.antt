@@ -4,8 +4,8 @@ use Rattle.std.specs.Vec.{with_item}
 use Rattle.std.proofs.lemmas.Bool.Decides.{eqb_tells}
 use Rattle.std.proofs.lemmas.List.{get_or-set_same, get_or-set_other, get_or_default, length-set}
 use Rattle.interleavings.specs.declared.acts.Acts.{Acts}
-use Rattle.interleavings.specs.declared.core_words.Core.{Core}
-use Rattle.interleavings.specs.declared.stepping.AtomicStep.{AtomicStep}
+use Rattle.interleavings.specs.declared.core_state.Core.{Core}
+use Rattle.interleavings.specs.declared.step_words.AtomicStep.{AtomicStep}
 use Rattle.interleavings.specs.AtomicStep.{SharedWord, word_of, word_after, acts_after}
 use Rattle.interleavings.specs.CoreShows.{ShowsState, HasWholeRow, step_seen}
 use Rattle.interleavings.specs.History.{State, put_word, person_after, happens}

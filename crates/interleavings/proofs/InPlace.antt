@@ -3,6 +3,8 @@ use Rattle.std.proofs.Common.{◌≡◌, ◌≢◌, ℕ, ◌+◌, ◌*◌, ◌/�
 use Rattle.std.proofs.lemmas.Bool.{true≢false, cases_lt, cases_eq, eqb-true, eqb-false, ne_eqb}
 use Rattle.std.proofs.lemmas.List.{get_or-set_same, get_or-set_other, get_or_past, length-set}
 use Rattle.std.specs.Prelude.{IsSome, not, filter, slice_set}
+use Rattle.stride_isa.specs.Changes.{applied}
+use Rattle.stride_isa.specs.declared.change.Change.{Change}
 use Rattle.sc_machine.specs.declared.end.End.{End}
 use Rattle.sc_machine.specs.declared.stop.Stop.{Stop}
 use Rattle.sc_machine.specs.declared.stop.Stop.TheVariants as stops
@@ -12,21 +14,35 @@ use Rattle.interleavings.specs.declared.acts.Acts.{Acts}
 use Rattle.interleavings.specs.declared.acts.HeldTurn.{HeldTurn}
 use Rattle.interleavings.specs.declared.acts.OddLooks.{OddLooks}
 use Rattle.interleavings.specs.declared.acts.Phase.{Phase}
-use Rattle.interleavings.specs.declared.acts.Phase.TheVariants.{Idle, Loaded, InTurn, Numbered, Marked, Stored, Completed, Looked}
+use Rattle.interleavings.specs.declared.acts.Phase.TheVariants.{Idle, Loaded, Numbered, Marked, Fetched, Stored, Looked}
 use Rattle.interleavings.specs.declared.event.Event.{Event}
 use Rattle.interleavings.specs.AtomicStep.{held_turn, Begins, Suits, May, is_even, read_if, entered_if, finished_by, phase_if, phase_after, name_after, held_if, held_after, looked, looks_after}
-use Rattle.interleavings.specs.Recording.{next_kind, at_of, value_of, gives_up}
+use Rattle.interleavings.specs.Driving.{at_of, value_of}
+use Rattle.interleavings.specs.Recording.{gives_up}
 use Rattle.interleavings.proofs.HeldFlags.{flags_after, HoldsAtExit}
+use Rattle.interleavings.proofs.NextSteps.{kind_at}
+
+-- a write stores its value, and had loaded none
+abbrev pub HasWritten : ℕ → Option ℕ → ℕ → Type 0
+HasWritten value None word = value ≡ word
+HasWritten value (Some old) word = ⊥
+
+-- an update stores what its change makes of the value that it had loaded
+abbrev pub HasUpdated : Change → Option ℕ → ℕ → Type 0
+HasUpdated change None word = ⊥
+HasUpdated change (Some old) word = applied change old ≡ word
 
 -- the phase is one of the shared instruction at which the thread stands; at its end it is idle
 abbrev pub IsPhaseAt : Phase → Stop → Type 0
 IsPhaseAt Idle stop = Unit {0}
 IsPhaseAt (Loaded at value) (stops.Read cell) = cell ≡ at
-IsPhaseAt (InTurn at) (stops.Write cell value) = cell ≡ at
 IsPhaseAt (Numbered at n) (stops.Write cell value) = cell ≡ at
+IsPhaseAt (Numbered at n) (stops.Update cell change) = cell ≡ at
 IsPhaseAt (Marked at n) (stops.Write cell value) = cell ≡ at
-IsPhaseAt (Stored at n word) (stops.Write cell value) = (cell ≡ at) × (value ≡ word)
-IsPhaseAt (Completed at n word) (stops.Write cell value) = (cell ≡ at) × (value ≡ word)
+IsPhaseAt (Marked at n) (stops.Update cell change) = cell ≡ at
+IsPhaseAt (Fetched at n old) (stops.Update cell change) = cell ≡ at
+IsPhaseAt (Stored at n old word) (stops.Write cell value) = (cell ≡ at) × HasWritten value old word
+IsPhaseAt (Stored at n old word) (stops.Update cell change) = (cell ≡ at) × HasUpdated change old word
 IsPhaseAt (Looked at turn) (stops.Enter monitor) = monitor ≡ at
 IsPhaseAt phase stop = ⊥
 
@@ -51,15 +67,20 @@ abbrev pub AreInPlace : ℕ → Stop → List Bool → Acts → Type 0
 AreInPlace patience stop flags acts = IsInPlace patience stop flags acts.name acts.phase acts.held acts.looks
 
 -- a phase of the shared instruction is one in which its next step begins
-begins_next : (stop : Stop) (phase : Phase) → IsShared stop → IsPhaseAt phase stop → Begins (next_kind stop phase) (at_of stop) phase
+begins_next : (stop : Stop) (phase : Phase) → IsShared stop → IsPhaseAt phase stop → Begins (kind_at stop phase) (at_of stop) phase
 begins_next (stops.Read cell) Idle shared fits = tt
 begins_next (stops.Read cell) (Loaded at value) shared fits = fits
 begins_next (stops.Write cell value) Idle shared fits = tt
-begins_next (stops.Write cell value) (InTurn at) shared fits = fits
 begins_next (stops.Write cell value) (Numbered at n) shared fits = fits
 begins_next (stops.Write cell value) (Marked at n) shared fits = fits
-begins_next (stops.Write cell value) (Stored at n word) shared fits = fits.0
-begins_next (stops.Write cell value) (Completed at n word) shared fits = fits.0
+begins_next (stops.Write cell value) (Stored at n None word) shared fits = fits.0
+begins_next (stops.Write cell value) (Stored at n (Some old) word) shared fits = absurd fits.1
+begins_next (stops.Update cell change) Idle shared fits = tt
+begins_next (stops.Update cell change) (Numbered at n) shared fits = fits
+begins_next (stops.Update cell change) (Marked at n) shared fits = fits
+begins_next (stops.Update cell change) (Fetched at n old) shared fits = fits
+begins_next (stops.Update cell change) (Stored at n (Some old) word) shared fits = fits.0
+begins_next (stops.Update cell change) (Stored at n None word) shared fits = absurd fits.1
 begins_next (stops.Enter monitor) Idle shared fits = tt
 begins_next (stops.Enter monitor) (Looked at turn) shared fits = fits
 begins_next (stops.Exit monitor) Idle shared fits = tt
@@ -67,18 +88,23 @@ begins_next (stops.Ended end) phase shared fits = absurd shared
 begins_next stop phase shared fits = absurd fits
 
 -- a thread with a name, which has the turn where it stands at an exit, suits its next step
-suits_next : (stop : Stop) (phase : Phase) (acts : Acts) → IsShared stop → IsPhaseAt phase stop → IsSome acts.name → ((monitor : ℕ) → stop ≡ stops.Exit monitor → IsSome (held_turn monitor acts.held)) → Suits (next_kind stop phase) (at_of stop) acts
+suits_next : (stop : Stop) (phase : Phase) (acts : Acts) → IsShared stop → IsPhaseAt phase stop → IsSome acts.name → ((monitor : ℕ) → stop ≡ stops.Exit monitor → IsSome (held_turn monitor acts.held)) → Suits (kind_at stop phase) (at_of stop) acts
 suits_next (stops.Read cell) Idle acts shared fits named turn = named
-suits_next (stops.Read cell) (Loaded at value) acts shared fits named turn = named
+suits_next (stops.Read cell) (Loaded at value) acts shared fits named turn = tt
 suits_next (stops.Write cell value) Idle acts shared fits named turn = named
-suits_next (stops.Write cell value) (InTurn at) acts shared fits named turn = named
-suits_next (stops.Write cell value) (Numbered at n) acts shared fits named turn = named
-suits_next (stops.Write cell value) (Marked at n) acts shared fits named turn = named
-suits_next (stops.Write cell value) (Stored at n word) acts shared fits named turn = named
-suits_next (stops.Write cell value) (Completed at n word) acts shared fits named turn = named
+suits_next (stops.Write cell value) (Numbered at n) acts shared fits named turn = tt
+suits_next (stops.Write cell value) (Marked at n) acts shared fits named turn = tt
+suits_next (stops.Write cell value) (Stored at n None word) acts shared fits named turn = tt
+suits_next (stops.Write cell value) (Stored at n (Some old) word) acts shared fits named turn = absurd fits.1
+suits_next (stops.Update cell change) Idle acts shared fits named turn = named
+suits_next (stops.Update cell change) (Numbered at n) acts shared fits named turn = tt
+suits_next (stops.Update cell change) (Marked at n) acts shared fits named turn = tt
+suits_next (stops.Update cell change) (Fetched at n old) acts shared fits named turn = tt
+suits_next (stops.Update cell change) (Stored at n (Some old) word) acts shared fits named turn = tt
+suits_next (stops.Update cell change) (Stored at n None word) acts shared fits named turn = absurd fits.1
 suits_next (stops.Enter monitor) Idle acts shared fits named turn = named
-suits_next (stops.Enter monitor) (Looked at count) acts shared fits named turn = named
-suits_next (stops.Exit monitor) Idle acts shared fits named turn = (named, turn monitor refl)
+suits_next (stops.Enter monitor) (Looked at count) acts shared fits named turn = tt
+suits_next (stops.Exit monitor) Idle acts shared fits named turn = turn monitor refl
 suits_next (stops.Ended end) phase acts shared fits named turn = absurd shared
 suits_next stop phase acts shared fits named turn = absurd fits
 
@@ -87,7 +113,7 @@ pub turn_at_exit : (stop : Stop) (flags : List Bool) (held : List HeldTurn) → 
 turn_at_exit stop flags held there turns monitor e = turns monitor (subst (λ (x : Stop). HoldsAtExit x flags) e there)
 
 -- the next step of a thread that stands at a shared instruction may be made
-pub may_next : (patience : ℕ) (stop : Stop) (flags : List Bool) (acts : Acts) → IsShared stop → HoldsAtExit stop flags → AreInPlace patience stop flags acts → May (next_kind stop acts.phase) (at_of stop) acts
+pub may_next : (patience : ℕ) (stop : Stop) (flags : List Bool) (acts : Acts) → IsShared stop → HoldsAtExit stop flags → AreInPlace patience stop flags acts → May (kind_at stop acts.phase) (at_of stop) acts
 may_next patience stop flags acts shared there before = record {
   begins = begins_next stop acts.phase shared before.fits;
   suits = suits_next stop acts.phase acts shared before.fits before.named (turn_at_exit stop flags acts.held there before.turns);
@@ -103,6 +129,7 @@ IsInPlaceAfter patience stop flags name phase held looks (Some event) = (other :
 pub patient_at : (patience : ℕ) (stop : Stop) (looks : Option OddLooks) → gives_up patience looks ≡ false → IsPatient patience stop looks
 patient_at patience (stops.Read cell) looks e = e
 patient_at patience (stops.Write cell value) looks e = e
+patient_at patience (stops.Update cell change) looks e = e
 patient_at patience (stops.Enter monitor) looks e = e
 patient_at patience (stops.Exit monitor) looks e = e
 patient_at patience (stops.Ended end) looks e = tt
@@ -125,9 +152,9 @@ some_chosen true turn rest h = refl
 some_chosen false turn rest h = h refl
 
 -- where the first turn is not chosen, the rest is some turn
-some_behind : (b : Bool) (turn : ℕ) (rest : Option ℕ) → IsSome (cond b (Some turn) rest) → b ≡ false → IsSome rest
-some_behind true turn rest h e = absurd (true≢false e)
-some_behind false turn rest h e = h
+some_after : (b : Bool) (turn : ℕ) (rest : Option ℕ) → IsSome (cond b (Some turn) rest) → b ≡ false → IsSome rest
+some_after true turn rest h e = absurd (true≢false e)
+some_after false turn rest h e = h
 
 -- an entry sets a flag and gives a turn of its monitor
 turns_after_entry : (flags : List Bool) (held : List HeldTurn) (monitor turn : ℕ) → HasTurns flags held → HasTurns (slice_set flags monitor true) (record { mon = monitor; turn = turn } ∷ held)
@@ -140,8 +167,8 @@ turn_kept [] monitor m other there = there
 turn_kept (h ∷ held) monitor m other there = kept (h.mon == monitor) (λ e. ne_eqb h.mon m (λ same. other (sym same ∙ eqb-true h.mon monitor e))) (turn_kept held monitor m other)
   where
     kept : (dropped : Bool) → (dropped ≡ true → (h.mon == m) ≡ false) → (IsSome (held_turn m held) → IsSome (held_turn m (filter (λ h. not (h.mon == monitor)) held))) → IsSome (held_turn m (cond (not dropped) (h ∷ filter (λ h. not (h.mon == monitor)) held) (filter (λ h. not (h.mon == monitor)) held)))
-    kept true differs rest = rest (some_behind (h.mon == m) h.turn (held_turn m held) there (differs refl))
-    kept false differs rest = some_chosen (h.mon == m) h.turn _ (λ e. rest (some_behind (h.mon == m) h.turn (held_turn m held) there e))
+    kept true differs rest = rest (some_after (h.mon == m) h.turn (held_turn m held) there (differs refl))
+    kept false differs rest = some_chosen (h.mon == m) h.turn _ (λ e. rest (some_after (h.mon == m) h.turn (held_turn m held) there e))
 
 -- a flag that is taken down is down, also past the end of the list
 lowered : (flags : List Bool) (monitor : ℕ) → holds (slice_set flags monitor false) monitor ≡ false
@@ -163,10 +190,10 @@ module _ (patience : ℕ) (flags : List Bool) (name : Option ℕ) (held : List H
   number_loaded true cell at value bound e = λ other. finishes patience flags name held looks named turns other calm
   number_loaded false cell at value bound e = goes_on patience flags name held looks named turns (stops.Read cell) (Loaded at value) e calm
 
-  -- a write takes its turn where that is free
-  turn_taken : (b : Bool) (cell value : ℕ) → IsInPlaceAfter patience (stops.Write cell value) flags name (phase_if b (InTurn cell) Idle) held looks None
-  turn_taken true cell value = goes_on patience flags name held looks named turns (stops.Write cell value) (InTurn cell) refl calm
-  turn_taken false cell value = goes_on patience flags name held looks named turns (stops.Write cell value) Idle tt calm
+  -- a writer goes on to another phase where its test passes, and else begins again
+  writer_chose : (b : Bool) (stop : Stop) (phase : Phase) → IsPhaseAt phase stop → IsInPlaceAfter patience stop flags name (phase_if b phase Idle) held looks None
+  writer_chose true stop phase fits = goes_on patience flags name held looks named turns stop phase fits calm
+  writer_chose false stop phase fits = goes_on patience flags name held looks named turns stop Idle tt calm
 
   -- an entry looks at its monitor, and counts the looks that find it held
   monitor_looked : (b : Bool) (monitor turn : ℕ) → IsInPlaceAfter patience (stops.Enter monitor) flags name (phase_if b (Looked monitor turn) Idle) held (looked b monitor looks) None
@@ -185,15 +212,20 @@ module _ (patience : ℕ) (flags : List Bool) (name : Option ℕ) (held : List H
   monitor_entered false monitor turn = goes_on patience flags name held looks named turns (stops.Enter monitor) Idle tt calm
 
 -- by the shared instruction and the phase: a thread in place is in place after its next step, whatever word that meets
-pub in_place_after : (patience : ℕ) (stop : Stop) (flags : List Bool) (name : Option ℕ) (phase : Phase) (events : List Event) (held : List HeldTurn) (looks : Option OddLooks) (met : ℕ) → IsShared stop → IsInPlace patience stop flags name phase held looks → IsInPlaceAfter patience stop flags (name_after (next_kind stop phase) name met) (phase_after (next_kind stop phase) (at_of stop) (value_of stop) phase met) (held_after (next_kind stop phase) (at_of stop) phase held met) (looks_after (next_kind stop phase) (at_of stop) looks met) (finished_by (next_kind stop phase) (at_of stop) (record { name = name; phase = phase; events = events; held = held; looks = looks }) met)
+pub in_place_after : (patience : ℕ) (stop : Stop) (flags : List Bool) (name : Option ℕ) (phase : Phase) (events : List Event) (held : List HeldTurn) (looks : Option OddLooks) (met : ℕ) → IsShared stop → IsInPlace patience stop flags name phase held looks → IsInPlaceAfter patience stop flags (name_after (kind_at stop phase) name met) (phase_after (kind_at stop phase) (at_of stop) (value_of stop phase) phase met) (held_after (kind_at stop phase) (at_of stop) phase held met) (looks_after (kind_at stop phase) (at_of stop) looks met) (finished_by (kind_at stop phase) (at_of stop) (record { name = name; phase = phase; events = events; held = held; looks = looks }) met)
 in_place_after patience (stops.Read cell) flags name Idle events held looks met shared before = goes_on patience flags name held looks before.named before.turns (stops.Read cell) (Loaded cell met) refl before.patient
 in_place_after patience (stops.Read cell) flags name (Loaded at value) events held looks met shared before = number_loaded patience flags name held looks before.named before.turns before.patient (is_even met) cell at value (met / 2) before.fits
-in_place_after patience (stops.Write cell value) flags name Idle events held looks met shared before = turn_taken patience flags name held looks before.named before.turns before.patient (met == 0) cell value
-in_place_after patience (stops.Write cell value) flags name (InTurn at) events held looks met shared before = goes_on patience flags name held looks before.named before.turns (stops.Write cell value) (Numbered cell (met / 2)) refl before.patient
-in_place_after patience (stops.Write cell value) flags name (Numbered at n) events held looks met shared before = goes_on patience flags name held looks before.named before.turns (stops.Write cell value) (Marked at n) before.fits before.patient
-in_place_after patience (stops.Write cell value) flags name (Marked at n) events held looks met shared before = goes_on patience flags name held looks before.named before.turns (stops.Write cell value) (Stored at n value) (before.fits, refl) before.patient
-in_place_after patience (stops.Write cell value) flags name (Stored at n word) events held looks met shared before = goes_on patience flags name held looks before.named before.turns (stops.Write cell value) (Completed at n word) before.fits before.patient
-in_place_after patience (stops.Write cell value) flags name (Completed at n word) events held looks met shared before = λ other. finishes patience flags name held looks before.named before.turns other before.patient
+in_place_after patience (stops.Write cell value) flags name Idle events held looks met shared before = writer_chose patience flags name held looks before.named before.turns before.patient (is_even met) (stops.Write cell value) (Numbered cell (met / 2)) refl
+in_place_after patience (stops.Write cell value) flags name (Numbered at n) events held looks met shared before = writer_chose patience flags name held looks before.named before.turns before.patient (met == 2 * n) (stops.Write cell value) (Marked at n) before.fits
+in_place_after patience (stops.Write cell value) flags name (Marked at n) events held looks met shared before = goes_on patience flags name held looks before.named before.turns (stops.Write cell value) (Stored at n None value) (before.fits, refl) before.patient
+in_place_after patience (stops.Write cell value) flags name (Stored at n None word) events held looks met shared before = λ other. finishes patience flags name held looks before.named before.turns other before.patient
+in_place_after patience (stops.Write cell value) flags name (Stored at n (Some old) word) events held looks met shared before = absurd before.fits.1
+in_place_after patience (stops.Update cell change) flags name Idle events held looks met shared before = writer_chose patience flags name held looks before.named before.turns before.patient (is_even met) (stops.Update cell change) (Numbered cell (met / 2)) refl
+in_place_after patience (stops.Update cell change) flags name (Numbered at n) events held looks met shared before = writer_chose patience flags name held looks before.named before.turns before.patient (met == 2 * n) (stops.Update cell change) (Marked at n) before.fits
+in_place_after patience (stops.Update cell change) flags name (Marked at n) events held looks met shared before = goes_on patience flags name held looks before.named before.turns (stops.Update cell change) (Fetched at n met) before.fits before.patient
+in_place_after patience (stops.Update cell change) flags name (Fetched at n old) events held looks met shared before = goes_on patience flags name held looks before.named before.turns (stops.Update cell change) (Stored at n (Some old) (applied change old)) (before.fits, refl) before.patient
+in_place_after patience (stops.Update cell change) flags name (Stored at n (Some old) word) events held looks met shared before = λ other. finishes patience flags name held looks before.named before.turns other before.patient
+in_place_after patience (stops.Update cell change) flags name (Stored at n None word) events held looks met shared before = absurd before.fits.1
 in_place_after patience (stops.Enter monitor) flags name Idle events held looks met shared before = monitor_looked patience flags name held looks before.named before.turns before.patient (is_even met) monitor (met / 2)
 in_place_after patience (stops.Enter monitor) flags name (Looked at turn) events held looks met shared before = monitor_entered patience flags name held looks before.named before.turns before.patient (met == 2 * turn) monitor (turn + 1)
 in_place_after patience (stops.Exit monitor) flags name Idle events held looks met shared before = λ other. finishes patience (slice_set flags monitor false) name (filter (λ h. not (h.mon == monitor)) held) looks before.named (turns_after_exit flags held monitor before.turns) other before.patient

@@ -2,7 +2,7 @@
 use Rattle.std.proofs.Common.{◌≡◌, ℕ, ◌<◌, ◌∙◌, Bool, true, false, if◌then◌else◌, List, length, inl, inr, refl, sym, ap, arith, get_or, set}
 use Rattle.std.proofs.lemmas.Bool.Decides.{eqb_tells}
 use Rattle.std.proofs.lemmas.List.{get_or-set_same, get_or-set_other}
-use Rattle.interleavings.specs.AtomicStep.{SharedWord, Drawn, Value, Number, Turn, Monitor}
+use Rattle.interleavings.specs.AtomicStep.{SharedWord, Drawn, Value, Number, Monitor}
 use Rattle.interleavings.specs.History.{same_word, put_word}
 use Rattle.interleavings.specs.Layout.{index_of, row_length, IsInRow}
 use Rattle.interleavings.proofs.Within.{same_word_tells}
@@ -11,7 +11,6 @@ pub index_tells : (cells monitors : ℕ) (word other : SharedWord) → IsInRow c
 index_tells cells monitors Drawn Drawn i j e = refl
 index_tells cells monitors (Value cell) (Value other) i j e = let same : cell ≡ other = omega arith in ap Value same
 index_tells cells monitors (Number cell) (Number other) i j e = let same : cell ≡ other = omega arith in ap Number same
-index_tells cells monitors (Turn cell) (Turn other) i j e = let same : cell ≡ other = omega arith in ap Turn same
 index_tells cells monitors (Monitor monitor) (Monitor other) i j e = let same : monitor ≡ other = omega arith in ap Monitor same
 index_tells cells monitors word other i j e = absurd (omega arith)
 
@@ -20,14 +19,12 @@ pub index_inside : (cells monitors : ℕ) (word : SharedWord) → IsInRow cells 
 index_inside cells monitors Drawn i = omega arith
 index_inside cells monitors (Value cell) i = omega arith
 index_inside cells monitors (Number cell) i = omega arith
-index_inside cells monitors (Turn cell) i = omega arith
 index_inside cells monitors (Monitor monitor) i = omega arith
 
 same_word_self : (word : SharedWord) → same_word word word ≡ true
 same_word_self Drawn = refl
 same_word_self (Value cell) = grind arith
 same_word_self (Number cell) = grind arith
-same_word_self (Turn cell) = grind arith
 same_word_self (Monitor monitor) = grind arith
 
 not_true : (b : Bool) → (b ≡ true → ⊥) → b ≡ false

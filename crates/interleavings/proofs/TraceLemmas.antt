@@ -1,7 +1,7 @@
 -- Lists of events and of starting values.
-use Rattle.std.proofs.Common.{◌≡◌, ◌∙◌, ℕ, ◌+◌, ◌<◌, ◌≤◌, zero, suc, List, [], ◌∷◌, ◌++◌, length, get_or, set, map, take, replicate, refl, sym, ap, arith}
+use Rattle.std.proofs.Common.{◌≡◌, ◌∙◌, ℕ, ◌+◌, ◌<◌, ◌≤◌, zero, suc, List, [], ◌∷◌, ◌++◌, length, get_or, set, map, take, replicate, refl, sym, ap, subst, arith}
 use Rattle.std.specs.List.{AllByRecursion, slice_index_or, sum_by}
-use Rattle.std.proofs.lemmas.List.{length-replicate, map-set, replicate-append-replicate, take_more, take_all}
+use Rattle.std.proofs.lemmas.List.{length-map, length-replicate, map-set, replicate-append-replicate, take_more, take_all}
 use Rattle.std.proofs.lemmas.List.Sums.{sum_by-cons}
 use Rattle.std.proofs.lemmas.List.Concat.{length-flat_map}
 use Rattle.stride_isa.specs.Listing.{cell_count, cells_of, starts_of}
@@ -30,20 +30,27 @@ starts_more decls starts cell value below so_far is =
 pub starts_all : (decls : List Decl) (count : ℕ) → count ≡ cell_count decls → take count (starts_of decls) ≡ starts_of decls
 starts_all decls count is = take_all count (starts_of decls) (omega (arith, length-starts decls))
 
--- the events of a thread are few where those of each thread are
-pub few_at : (lists : List (List Event)) (i : ℕ) → AllByRecursion (λ events. length events ≤ 1000000) lists → length (slice_index_or lists i []) ≤ 1000000
-few_at [] i h = omega arith
-few_at (events ∷ lists) zero h = h.0
-few_at (events ∷ lists) (suc i) h = few_at lists i h.1
+-- what holds of each item holds of the one at an index
+pub each_at : {X : Type 0} (P : X → Type 0) (xs : List X) (i : ℕ) (d : X) → i < length xs → AllByRecursion P xs → P (get_or xs i d)
+each_at P [] i d below h = absurd (omega arith)
+each_at P (x ∷ xs) zero d below h = h.0
+each_at P (x ∷ xs) (suc i) d below h = each_at P xs i d (omega arith) h.1
 
-pub few_set : (lists : List (List Event)) (i : ℕ) (more : List Event) → AllByRecursion (λ events. length events ≤ 1000000) lists → length more ≤ 1000000 → AllByRecursion (λ events. length events ≤ 1000000) (set lists i more)
-few_set [] i more h few = tt
-few_set (events ∷ lists) zero more h few = (few, h.1)
-few_set (events ∷ lists) (suc i) more h few = (h.0, few_set lists i more h.1 few)
+-- and of each in which one was replaced by another of which it holds
+pub each_set : {X : Type 0} (P : X → Type 0) (xs : List X) (i : ℕ) (x : X) → AllByRecursion P xs → P x → AllByRecursion P (set xs i x)
+each_set P [] i x h p = tt
+each_set P (y ∷ xs) zero x h p = (p, h.1)
+each_set P (y ∷ xs) (suc i) x h p = (h.0, each_set P xs i x h.1 p)
 
-pub few_none : (n : ℕ) → AllByRecursion (λ (events : List Event). length events ≤ 1000000) (replicate n [])
-few_none zero = tt
-few_none (suc n) = (omega arith, few_none n)
+-- and of equal ones
+pub each_equal : {X : Type 0} (P : X → Type 0) (n : ℕ) (x : X) → P x → AllByRecursion P (replicate n x)
+each_equal P zero x p = tt
+each_equal P (suc n) x p = (p, each_equal P n x p)
+
+-- and of each with one more at the end
+pub each_more : {X : Type 0} (P : X → Type 0) (xs : List X) (x : X) → AllByRecursion P xs → P x → AllByRecursion P (xs ++ x ∷ [])
+each_more P [] x h p = (p, tt)
+each_more P (y ∷ xs) x h p = (h.0, each_more P xs x h.1 p)
 
 -- an element of a row of lists, read through their items
 pub at_map : {V X : Type 0} (f : V → List X) (vs : List V) (i : ℕ) (d : V) → i < length vs → get_or (map f vs) i [] ≡ f (get_or vs i d)
@@ -56,8 +63,8 @@ pub pushed_at : {V X : Type 0} (f : V → List X) (vs : List V) (i : ℕ) (old n
 pushed_at f vs i old new x below is grown =
     map-set f vs i new ∙ ap (set (map f vs) i) (grown ∙ ap (λ items. items ++ x ∷ []) (ap f is ∙ sym (at_map f vs i old below)))
 
--- the same list has few events, read in place
-pub few_in : {V : Type 0} (f : V → List Event) (vs : List V) (i : ℕ) (v : V) → i < length vs → v ≡ get_or vs i v → AllByRecursion (λ events. length events ≤ 1000000) (map f vs) → length (f v) ≤ 1000000
-few_in f vs i v below is few =
+-- what holds of each list of events holds of one that is read in place
+pub each_in : {V : Type 0} (P : List Event → Type 0) (f : V → List Event) (vs : List V) (i : ℕ) (v : V) → i < length vs → v ≡ get_or vs i v → AllByRecursion P (map f vs) → P (f v)
+each_in P f vs i v below is all =
     let here : f v ≡ get_or (map f vs) i [] = ap f is ∙ sym (at_map f vs i v below) in
-    omega (arith, few_at (map f vs) i few, ap length here)
+    subst P (sym here) (each_at P (map f vs) i [] (simp length-map below) all)

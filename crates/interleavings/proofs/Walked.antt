@@ -11,13 +11,14 @@ use Rattle.interleavings.specs.declared.acts.HeldTurn.{HeldTurn}
 use Rattle.interleavings.specs.declared.acts.OddLooks.{OddLooks}
 use Rattle.interleavings.specs.declared.event.Event.{Event}
 use Rattle.interleavings.specs.AtomicStep.{with_event}
-use Rattle.interleavings.specs.Recording.{Setting, behind, gives_up, is_exit, thread_after}
+use Rattle.interleavings.specs.Recording.{Setting}
+use Rattle.interleavings.specs.Driving.{thread_after}
+use Rattle.interleavings.specs.Recording.{gives_up}
+use Rattle.interleavings.specs.Following.{no_turns}
+use Rattle.interleavings.specs.Walking.{is_exit, IsMet, Walks}
+use Rattle.interleavings.specs.EventStep.{after_event}
 use Rattle.interleavings.proofs.Finishes.{HasEntered, IsFinished}
-use Rattle.interleavings.proofs.Walks.{IsAlive, IsMet, Walks, behind-alive, turns_behind, turns_behind-on, walks_on}
-
--- no monitor was entered yet
-abbrev pub no_turns : ℕ → ℕ
-no_turns monitor = 0
+use Rattle.interleavings.proofs.Walks.{IsAlive, after_event-alive, turns_by, turns_by-on, walks_on}
 
 -- the thread came to where it stands by these events, or gave up there, which it does at no exit; the turns that it holds
 -- are those of its last entries
@@ -25,7 +26,7 @@ pub record HasWalked (g : Setting) (t : ℕ) (s : Thread) (done : List Event) (h
   pub last : Thread
   pub walks : Walks g.program g.fuel t done no_turns (settled g.program g.fuel t start_thread) last
   pub stands : (s ≡ last) ⊎ ((s ≡ stopped last) × (is_exit (stop_of g.program t last) ≡ false))
-  pub entered : HasEntered held (turns_behind done no_turns)
+  pub entered : HasEntered held (turns_by done no_turns)
   pub alive : IsAlive g.fuel s
 
 -- a thread at a shared instruction has not given up
@@ -38,20 +39,20 @@ given_up-alive : (fuel : ℕ) (s : Thread) → IsAlive fuel (stopped s)
 given_up-alive fuel s = inl (λ e. cc)
 
 -- by what the step finished
-pub thread_after-walked : (g : Setting) (t : ℕ) (s : Thread) (done : List Event) (old new : List HeldTurn) (finished : Option Event) (row : Option OddLooks) → IsShared (stop_of g.program t s) → HasWalked g t s done old → IsFinished (stop_of g.program t s) (turns_behind done no_turns) old new finished → HasWalked g t (thread_after g t finished row s) (with_event done finished) new
+pub thread_after-walked : (g : Setting) (t : ℕ) (s : Thread) (done : List Event) (old new : List HeldTurn) (finished : Option Event) (row : Option OddLooks) → IsShared (stop_of g.program t s) → HasWalked g t s done old → IsFinished (stop_of g.program t s) (turns_by done no_turns) old new finished → HasWalked g t (thread_after g t finished row s) (with_event done finished) new
 thread_after-walked g t s done old new (Some event) row shared walked finishes =
     let same : s ≡ walked.last = not_given_up g t s walked.last shared walked.stands in
     record {
-      last = behind g.program g.fuel t event s;
-      walks = subst (λ (x : Thread). Walks g.program g.fuel t (done ++ event ∷ []) no_turns (settled g.program g.fuel t start_thread) (behind g.program g.fuel t event x)) (sym same)
-          (walks_on g.program g.fuel t done no_turns (settled g.program g.fuel t start_thread) walked.last event walked.walks (subst (λ (x : Thread). IsMet (stop_of g.program t x) (turns_behind done no_turns) event) same finishes.0));
+      last = after_event g.program g.fuel t event s;
+      walks = subst (λ (x : Thread). Walks g.program g.fuel t (done ++ event ∷ []) no_turns (settled g.program g.fuel t start_thread) (after_event g.program g.fuel t event x)) (sym same)
+          (walks_on g.program g.fuel t done no_turns (settled g.program g.fuel t start_thread) walked.last event walked.walks (subst (λ (x : Thread). IsMet (stop_of g.program t x) (turns_by done no_turns) event) same finishes.0));
       stands = inl refl;
-      entered = subst (λ (turns : ℕ → ℕ). HasEntered new turns) (sym (turns_behind-on done no_turns event)) finishes.1;
-      alive = behind-alive g.program g.fuel t event s;
+      entered = subst (λ (turns : ℕ → ℕ). HasEntered new turns) (sym (turns_by-on done no_turns event)) finishes.1;
+      alive = after_event-alive g.program g.fuel t event s;
     }
 thread_after-walked g t s done old new None row shared walked finishes =
     let same : s ≡ walked.last = not_given_up g t s walked.last shared walked.stands in
-    let entered : HasEntered new (turns_behind done no_turns) = subst (λ (held : List HeldTurn). HasEntered held (turns_behind done no_turns)) (sym finishes.0) walked.entered in
+    let entered : HasEntered new (turns_by done no_turns) = subst (λ (held : List HeldTurn). HasEntered held (turns_by done no_turns)) (sym finishes.0) walked.entered in
     cond_both (gives_up g.patience row) (stopped s) s (λ x. HasWalked g t x done new)
     (λ gives. record {
       last = walked.last;

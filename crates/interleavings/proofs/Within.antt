@@ -5,10 +5,10 @@ use Rattle.interleavings.specs.declared.acts.Acts.{Acts}
 use Rattle.interleavings.specs.declared.acts.HeldTurn.{HeldTurn}
 use Rattle.interleavings.specs.declared.acts.OddLooks.{OddLooks}
 use Rattle.interleavings.specs.declared.acts.Phase.{Phase}
-use Rattle.interleavings.specs.declared.acts.Phase.TheVariants.{Idle, Loaded, InTurn, Numbered, Marked, Stored, Looked}
+use Rattle.interleavings.specs.declared.acts.Phase.TheVariants.{Idle, Loaded, Numbered, Marked, Fetched, Stored, Looked}
 use Rattle.interleavings.specs.declared.kind.Kind.{Kind}
 use Rattle.interleavings.specs.declared.kind.Kind.TheVariants as by
-use Rattle.interleavings.specs.AtomicStep.{SharedWord, Drawn, Value, Number, Turn, Monitor, word_of, word_after, phase_after, phase_if, held_after, held_if, marked, stored, completed, number_in, turn_in, held_turn, turn_or_zero, is_even, one_more, looked, looks_after}
+use Rattle.interleavings.specs.AtomicStep.{SharedWord, Drawn, Value, Number, Monitor, word_of, word_after, phase_after, phase_if, held_after, held_if, marked, fetched, stored, number_in, turn_in, held_turn, turn_or_zero, is_even, one_more, looked, looks_after}
 use Rattle.interleavings.specs.History.{Person, State, Step, same_word, start_state, person_after, happens, after}
 use Rattle.interleavings.specs.Bounded.{IsWordWithin, IsPhaseWithin, AreTurnsWithin, AreLooksWithin, AreActsWithin, IsStateWithin}
 
@@ -17,7 +17,6 @@ pub same_word_tells : (word other : SharedWord) → same_word word other ≡ tru
 same_word_tells Drawn Drawn e = refl
 same_word_tells (Value cell) (Value other) e = ap Value (grind (arith, e))
 same_word_tells (Number cell) (Number other) e = ap Number (grind (arith, e))
-same_word_tells (Turn cell) (Turn other) e = ap Turn (grind (arith, e))
 same_word_tells (Monitor monitor) (Monitor other) e = ap Monitor (grind (arith, e))
 same_word_tells word other e = cc
 
@@ -34,12 +33,12 @@ either_within false x y n p q = q
 word_within : (kind : Kind) (at value n : ℕ) (acts : Acts) (met : ℕ) → IsWordWithin n (word_of kind at) met → AreActsWithin n acts → IsWordWithin (suc n) (word_of kind at) (word_after kind at value acts met)
 word_within by.ValueLoad at value n acts met w a = tt
 word_within by.NumberLoad at value n acts met w a = omega arith
-word_within by.TakeTurn at value n acts met w a = tt
-word_within by.NumberInTurn at value n acts met w a = omega arith
-word_within by.Mark at value n acts met w a = omega (arith, a.phase.number)
+word_within by.SeeNumber at value n acts met w a = omega arith
+word_within by.Claim at value n acts met w a =
+    either_within (met == 2 * number_in acts.phase) (2 * number_in acts.phase + 1) met (2 * suc n + 1) (omega (arith, a.phase.number)) (omega arith)
+word_within by.Fetch at value n acts met w a = tt
 word_within by.Put at value n acts met w a = tt
 word_within by.Complete at value n acts met w a = omega (arith, a.phase.number)
-word_within by.GiveTurn at value n acts met w a = tt
 word_within by.Look at value n acts met w a = omega arith
 word_within by.Enter at value n acts met w a =
     either_within (met == 2 * turn_in acts.phase) (2 * turn_in acts.phase + 1) met (2 * suc n + 1) (omega (arith, a.phase.turn)) (omega arith)
@@ -50,7 +49,6 @@ pub word_wider : (word : SharedWord) (n m value : ℕ) → n ≤ m → IsWordWit
 word_wider Drawn n m value le w = omega arith
 word_wider (Value cell) n m value le w = tt
 word_wider (Number cell) n m value le w = omega arith
-word_wider (Turn cell) n m value le w = tt
 word_wider (Monitor monitor) n m value le w = omega arith
 
 phase_wider : (n m : ℕ) (phase : Phase) → n ≤ m → IsPhaseWithin n phase → IsPhaseWithin m phase
@@ -70,11 +68,12 @@ marked_within n phase w = w
 
 stored_within : (n value : ℕ) (phase : Phase) → IsPhaseWithin n phase → IsPhaseWithin n (stored value phase)
 stored_within n value (Marked cell number) w = record { number = w.number; turn = omega arith }
+stored_within n value (Fetched cell number old) w = record { number = w.number; turn = omega arith }
 stored_within n value phase w = w
 
-completed_within : (n : ℕ) (phase : Phase) → IsPhaseWithin n phase → IsPhaseWithin n (completed phase)
-completed_within n (Stored cell number value) w = record { number = w.number; turn = omega arith }
-completed_within n phase w = w
+fetched_within : (n old : ℕ) (phase : Phase) → IsPhaseWithin n phase → IsPhaseWithin n (fetched old phase)
+fetched_within n old (Marked cell number) w = record { number = w.number; turn = omega arith }
+fetched_within n old phase w = w
 
 half_within : (n met : ℕ) → met ≤ 2 * n + 1 → met / 2 ≤ suc n
 half_within n met w = omega arith
@@ -82,19 +81,21 @@ half_within n met w = omega arith
 none_within : (n : ℕ) (phase : Phase) → number_in phase ≡ 0 → turn_in phase ≡ 0 → IsPhaseWithin n phase
 none_within n phase p q = record { number = omega (arith, p); turn = omega (arith, q) }
 
+idle_within : (n : ℕ) → IsPhaseWithin n Idle
+idle_within n = none_within n Idle refl refl
+
 phase_within : (kind : Kind) (at value n : ℕ) (phase : Phase) (met : ℕ) → IsWordWithin n (word_of kind at) met → IsPhaseWithin n phase → IsPhaseWithin (suc n) (phase_after kind at value phase met)
 phase_within by.ValueLoad at value n phase met w p = none_within (suc n) (Loaded at met) refl refl
-phase_within by.NumberLoad at value n phase met w p = phase_if_within (suc n) (is_even met) Idle phase (none_within (suc n) Idle refl refl) (phase_wider n (suc n) phase (omega arith) p)
-phase_within by.TakeTurn at value n phase met w p = phase_if_within (suc n) (met == 0) (InTurn at) phase (none_within (suc n) (InTurn at) refl refl) (phase_wider n (suc n) phase (omega arith) p)
-phase_within by.NumberInTurn at value n phase met w p = record { number = half_within n met w; turn = omega arith }
-phase_within by.Mark at value n phase met w p = marked_within (suc n) phase (phase_wider n (suc n) phase (omega arith) p)
+phase_within by.NumberLoad at value n phase met w p = phase_if_within (suc n) (is_even met) Idle phase (idle_within (suc n)) (phase_wider n (suc n) phase (omega arith) p)
+phase_within by.SeeNumber at value n phase met w p = phase_if_within (suc n) (is_even met) (Numbered at (met / 2)) Idle (record { number = half_within n met w; turn = omega arith }) (idle_within (suc n))
+phase_within by.Claim at value n phase met w p = phase_if_within (suc n) (met == 2 * number_in phase) (marked phase) Idle (marked_within (suc n) phase (phase_wider n (suc n) phase (omega arith) p)) (idle_within (suc n))
+phase_within by.Fetch at value n phase met w p = fetched_within (suc n) met phase (phase_wider n (suc n) phase (omega arith) p)
 phase_within by.Put at value n phase met w p = stored_within (suc n) value phase (phase_wider n (suc n) phase (omega arith) p)
-phase_within by.Complete at value n phase met w p = completed_within (suc n) phase (phase_wider n (suc n) phase (omega arith) p)
-phase_within by.GiveTurn at value n phase met w p = none_within (suc n) Idle refl refl
-phase_within by.Look at value n phase met w p = phase_if_within (suc n) (is_even met) (Looked at (met / 2)) phase (record { number = omega arith; turn = half_within n met w }) (phase_wider n (suc n) phase (omega arith) p)
-phase_within by.Enter at value n phase met w p = none_within (suc n) Idle refl refl
-phase_within by.Leave at value n phase met w p = phase_wider n (suc n) phase (omega arith) p
-phase_within by.Draw at value n phase met w p = phase_wider n (suc n) phase (omega arith) p
+phase_within by.Complete at value n phase met w p = idle_within (suc n)
+phase_within by.Look at value n phase met w p = phase_if_within (suc n) (is_even met) (Looked at (met / 2)) Idle (record { number = omega arith; turn = half_within n met w }) (idle_within (suc n))
+phase_within by.Enter at value n phase met w p = idle_within (suc n)
+phase_within by.Leave at value n phase met w p = idle_within (suc n)
+phase_within by.Draw at value n phase met w p = idle_within (suc n)
 
 held_if_within : (n : ℕ) (b : Bool) (h : HeldTurn) (held : List HeldTurn) → h.turn ≤ n → AreTurnsWithin n held → AreTurnsWithin n (held_if b h held)
 held_if_within n true h held p q = (p, q)
@@ -155,13 +156,12 @@ start_within : (starts : List ℕ) (word : SharedWord) → IsWordWithin 0 word (
 start_within starts Drawn = omega arith
 start_within starts (Value cell) = tt
 start_within starts (Number cell) = omega arith
-start_within starts (Turn cell) = tt
 start_within starts (Monitor monitor) = omega arith
 
 -- after n steps the numbers are those that n steps can lead to
 pub after_within : (starts : List ℕ) (steps : List Step) → IsStateWithin (length steps) (after starts steps)
 unfolding after
-after_within starts [] = record { words = start_within starts; people = λ who. record { phase = none_within 0 Idle refl refl; held = tt; looks = tt } }
+after_within starts [] = record { words = start_within starts; people = λ who. record { phase = idle_within 0; held = tt; looks = tt } }
 after_within starts (s ∷ steps) = happens_within s (after starts steps) (length steps) (after_within starts steps)
 
 pub state_wider : (st : State) (n m : ℕ) → n ≤ m → IsStateWithin n st → IsStateWithin m st

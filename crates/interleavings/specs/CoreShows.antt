@@ -1,8 +1,9 @@
 -- The machine of `drive` beside the state that it shows. Only private clauses cite this module.
 use Rattle.std.specs.Prelude.{◌≡◌, ℕ, ◌<◌, length, slice_index, slice_index_or}
+use Rattle.interleavings.specs.declared.limits.TheConstants.{STEP_LIMIT}
 use Rattle.interleavings.specs.declared.acts.Acts.{Acts}
-use Rattle.interleavings.specs.declared.core_words.Core.{Core}
-use Rattle.interleavings.specs.declared.stepping.AtomicStep.{AtomicStep}
+use Rattle.interleavings.specs.declared.core_state.Core.{Core}
+use Rattle.interleavings.specs.declared.step_words.AtomicStep.{AtomicStep}
 use Rattle.interleavings.specs.AtomicStep.{SharedWord, word_of}
 use Rattle.interleavings.specs.Bounded.{IsStateWithin}
 use Rattle.interleavings.specs.History.{State, Step}
@@ -28,7 +29,7 @@ pub record CanHappen (core : Core) (step : AtomicStep) : Type 0 where
   pub inside : IsInRow core.layout.cells core.layout.monitors (word_of step.kind step.at)
   pub state : State
   pub shows : ShowsState core state
-  pub within : IsStateWithin 1073741824 state
+  pub within : IsStateWithin STEP_LIMIT state
 
 -- the core has as many words and threads as before
 pub record HasSameShape (old new : Core) : Type 0 where

@@ -3,7 +3,8 @@ use Rattle.std.specs.Prelude.{◌≡◌, ℕ, List, map, Some}
 use Rattle.interleavings.specs.declared.driven.Driven.{Driven}
 use Rattle.interleavings.specs.declared.driven.DriveError.{DriveError}
 use Rattle.interleavings.specs.declared.driven.DriveError.TheVariants.{NoSuchThread, NoMemory}
-use Rattle.interleavings.specs.Recording.{Recording, stranger}
+use Rattle.interleavings.specs.Driving.{stranger}
+use Rattle.interleavings.specs.Recording.{Recording}
 
 -- the recording that is given
 abbrev pub recording_seen : Driven → Recording

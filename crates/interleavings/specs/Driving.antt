@@ -20,7 +20,8 @@ use Rattle.interleavings.specs.AtomicStep.{Value, word_of, finished_by}
 use Rattle.interleavings.specs.Events.{log_of}
 use Rattle.interleavings.specs.EventStep.{after_event}
 use Rattle.interleavings.specs.History.{State, Step}
-use Rattle.interleavings.specs.Recording.{Setting, Recording, state_of, acts_of}
+use Rattle.interleavings.specs.Recording.{Setting, Recording, state_of, acts_of, gives_up}
+use Rattle.interleavings.specs.Walking.{is_exit}
 
 -- a run of the program under way: its atomic steps so far, the last of them first, and its threads
 pub record Drive : Type 0 where
@@ -95,11 +96,6 @@ next_step t stop phase =
 abbrev pub finished_in : State → Step → Option Event
 finished_in st s = finished_by s.kind s.at (st.people s.who).acts (st.words (word_of s.kind s.at))
 
--- whether a row of odd looks has reached the patience
-abbrev pub gives_up : ℕ → Option OddLooks → Bool
-gives_up patience None = false
-gives_up patience (Some row) = nat_le patience row.count
-
 -- the thread after a step of its own, which may have finished an event; where its row of odd looks reached the patience, it
 -- ends as stopped
 abbrev pub thread_after : Setting → ℕ → Option Event → Option OddLooks → Thread → Thread
@@ -149,14 +145,6 @@ has_claimed phase = false
 abbrev pub is_loaded : Phase → Bool
 is_loaded (Loaded cell value) = true
 is_loaded phase = false
-
-abbrev pub is_exit : Stop → Bool
-is_exit (stops.Read cell) = false
-is_exit (stops.Write cell value) = false
-is_exit (stops.Update cell change) = false
-is_exit (stops.Enter monitor) = false
-is_exit (stops.Exit monitor) = true
-is_exit (stops.Ended end) = false
 
 -- whether a thread has this left: a write or an update that it has claimed, a read whose number it has not found even yet, or
 -- an exit at which it stands

@@ -81,6 +81,10 @@ turns_from (Some begun) turns = λ m. if m == begun.monitor then begun.turn else
 abbrev pub turns_after : Event → (ℕ → ℕ) → ℕ → ℕ
 turns_after event turns = turns_from (entered_by event) turns
 
+-- no monitor was entered yet
+abbrev pub no_turns : ℕ → ℕ
+no_turns monitor = 0
+
 -- a thread that was run again: its events, and how it was left
 pub record Followed : Type 0 where
   pub events : List Event
@@ -107,7 +111,7 @@ follow_from p fuel t log (suc n) place turns s =
 -- the thread run again from its start by its log, or the place of the first entry that it can't use. Each event is an
 -- instruction, so there are at most as many as the fuel
 unfoldable pub follow : Listing → ℕ → ℕ → List LogEntry → Result Followed ℕ
-follow p fuel t log = follow_from p fuel t log (fuel + 1) 0 (λ monitor. 0) (settled p fuel t start_thread)
+follow p fuel t log = follow_from p fuel t log (fuel + 1) 0 no_turns (settled p fuel t start_thread)
 
 -- where a program and its logs part: the thread, and the place in its log
 pub record Divergence : Type 0 where

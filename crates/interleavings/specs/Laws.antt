@@ -1,11 +1,17 @@
--- What holds of every recording, whatever the program and the order are.
-use Rattle.std.specs.Prelude.{◌≡◌, ◌≤◌, ℕ, List, None, Ok, length}
+-- What holds of every recording, whatever the program and the order are, and of following.
+use Rattle.std.specs.Prelude.{◌≡◌, ◌≤◌, ◌<◌, ℕ, false, List, None, Ok, length}
+use Rattle.std.specs.List.{AllByRecursion}
 use Rattle.stride_isa.specs.Listing.{Listing}
+use Rattle.sc_machine.specs.ThreadStep.{Thread, start_thread, settled, stop_of}
+use Rattle.sc_machine.specs.Schedule.{stopped}
+use Rattle.interleavings.specs.declared.event.Event.{Event}
 use Rattle.interleavings.specs.declared.event.LogEntry.{LogEntry}
+use Rattle.interleavings.specs.declared.rest.Rest.{Rest}
 use Rattle.interleavings.specs.Events.{log_of}
-use Rattle.interleavings.specs.Following.{Followed, follow}
+use Rattle.interleavings.specs.Following.{Followed, no_turns, follow}
+use Rattle.interleavings.specs.Walking.{is_exit, Walks}
 use Rattle.interleavings.specs.Recording.{Setting, IsHistoryOf, IsFollowed}
-use Rattle.interleavings.specs.Driving.{driven, whole_run, stranger}
+use Rattle.interleavings.specs.Driving.{advance_all, begun, settle_all, is_left, driven, whole_run, stranger}
 
 -- the recording that an order of the program's threads gives is that of its run's steps, which are a history, and after
 -- which each thread is at rest
@@ -17,6 +23,27 @@ DrivenIsAHistory = (g : Setting) (order : List ℕ) → stranger (length g.progr
 abbrev pub DrivenIsFollowed : Type 0
 DrivenIsFollowed = (g : Setting) (order : List ℕ) → stranger (length g.program.threads) order ≡ None → IsFollowed g (driven g order) (whole_run g order).steps
 
+-- no log of the recording that an order gives has more entries than a thread has fuel
+abbrev pub DrivenIsShort : Type 0
+DrivenIsShort = (g : Setting) (order : List ℕ) → 1 ≤ g.fuel → stranger (length g.program.threads) order ≡ None → AllByRecursion (λ log. length log ≤ g.fuel) (driven g order).logs
+
+-- once a run has settled, no thread of the program has anything left, so the bound on the steps of settling is never met
+abbrev pub NothingIsLeft : Type 0
+NothingIsLeft = (g : Setting) (order : List ℕ) → stranger (length g.program.threads) order ≡ None → (rest : Rest) (t : ℕ) → t < length g.program.threads → is_left rest g t (settle_all g (advance_all g order (begun g))) ≡ false
+
 -- a thread that is run again by a log uses each entry of it, in order: the events that it makes have this very log
 abbrev pub FollowedUsesItsLog : Type 0
 FollowedUsesItsLog = (p : Listing) (fuel t : ℕ) (log : List LogEntry) (followed : Followed) → 1 ≤ fuel → follow p fuel t log ≡ Ok followed → log_of followed.events ≡ log
+
+-- a thread goes from its local start by these events to this state, at which it stands at no exit
+pub record IsWalk (p : Listing) (fuel t : ℕ) (es : List Event) (last : Thread) : Type 0 where
+  pub walks : Walks p fuel t es no_turns (settled p fuel t start_thread) last
+  pub inside : is_exit (stop_of p t last) ≡ false
+
+-- a thread that was run again by its log went by the events that it made, and was stopped where they led if it had not ended
+abbrev pub FollowedWalks : Type 0
+FollowedWalks = (p : Listing) (fuel t : ℕ) (log : List LogEntry) (followed : Followed) → 1 ≤ fuel → follow p fuel t log ≡ Ok followed → (last : Thread) × IsWalk p fuel t followed.events last × (followed.thread ≡ stopped last)
+
+-- a thread that goes by some events is run again through them by their log
+abbrev pub WalksAreFollowed : Type 0
+WalksAreFollowed = (p : Listing) (fuel t : ℕ) (es : List Event) (last : Thread) → IsWalk p fuel t es last → follow p fuel t (log_of es) ≡ Ok (record { events = es; thread = stopped last })

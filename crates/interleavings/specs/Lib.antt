@@ -2,7 +2,6 @@ pub mod AtomicStep
 pub mod Bounded
 pub mod CoreShows
 pub mod DrivenSeen
-pub mod DriverShows
 pub mod Driving
 pub mod EventStep
 pub mod Events
@@ -11,4 +10,6 @@ pub mod History
 pub mod Laws
 pub mod Layout
 pub mod Recording
+pub mod SimulationShows
 pub mod TraceLists
+pub mod Walking

@@ -1,11 +1,12 @@
 -- Recordings: what is kept of a run of a program's threads over the shared words, however their steps interleaved.
-use Rattle.std.specs.Prelude.{◌≡◌, ◌⊎◌, ℕ, ◌<◌, List, [], ◌∷◌, map, length, Ok}
+use Rattle.std.specs.Prelude.{◌≡◌, ◌⊎◌, ℕ, ◌<◌, Bool, true, false, Option, Some, None, nat_le, List, [], ◌∷◌, map, length, Ok}
 use Rattle.std.specs.List.{range_with_len}
 use Rattle.stride_isa.specs.Listing.{Listing, cell_count, starts_of}
 use Rattle.sc_machine.specs.declared.end.End.{End}
 use Rattle.sc_machine.specs.Schedule.{thread_numbers}
 use Rattle.sc_machine.specs.ThreadStep.{end_of}
 use Rattle.interleavings.specs.declared.acts.Acts.{Acts}
+use Rattle.interleavings.specs.declared.acts.OddLooks.{OddLooks}
 use Rattle.interleavings.specs.declared.acts.Phase.{Phase}
 use Rattle.interleavings.specs.declared.acts.Phase.TheVariants.{Idle, Numbered, Looked}
 use Rattle.interleavings.specs.declared.event.LogEntry.{LogEntry}
@@ -28,6 +29,11 @@ state_of g steps = after (starts_of g.program.decls) steps
 -- what a thread has done and is doing
 abbrev pub acts_of : Setting → List Step → ℕ → Acts
 acts_of g steps t = ((state_of g steps).people t).acts
+
+-- whether a row of odd looks has reached the patience
+abbrev pub gives_up : ℕ → Option OddLooks → Bool
+gives_up patience None = false
+gives_up patience (Some row) = nat_le patience row.count
 
 -- a recording: each thread's log, its output and its end, and the last value of each cell
 pub record Recording : Type 0 where

@@ -1,5 +1,5 @@
-//! Laws of recordings, over the definitions alone. Each is the contract of a function that does nothing.
-ghost use Rattle.interleavings.specs.Laws.{DrivenIsAHistory, DrivenIsFollowed, FollowedUsesItsLog};
+//! Laws of recordings and of following, over the definitions alone. Each is the contract of a function that does nothing.
+ghost use Rattle.interleavings.specs.Laws.{DrivenIsAHistory, DrivenIsFollowed, DrivenIsShort, NothingIsLeft, FollowedUsesItsLog, FollowedWalks, WalksAreFollowed};
 
 /// What an order of atomic steps gives is a recording of a history, after which each thread is at rest.
 pub fn driven_is_a_history()
@@ -12,7 +12,27 @@ pub fn driven_is_followed()
     ensures { DrivenIsFollowed }
 {}
 
+/// A log that an order of atomic steps gives has at most as many entries as a thread has fuel.
+pub fn driven_is_short()
+    ensures { DrivenIsShort }
+{}
+
+/// Once a run has settled, no thread has anything left of what it had claimed or loaded, and none stands at an exit.
+pub fn nothing_is_left()
+    ensures { NothingIsLeft }
+{}
+
 /// A thread that is run again by a log uses each entry of it: the events that it makes have this very log.
 pub fn followed_uses_its_log()
     ensures { FollowedUsesItsLog }
+{}
+
+/// A thread that was run again by its log went from event to event, each at the instruction where it stood.
+pub fn followed_walks()
+    ensures { FollowedWalks }
+{}
+
+/// A thread that goes from event to event is run again through these events by their log.
+pub fn walks_are_followed()
+    ensures { WalksAreFollowed }
 {}

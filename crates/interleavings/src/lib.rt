@@ -1,35 +1,39 @@
 //! Recording one atomic step at a time.
 //!
-//! Owns: events and log entries (`Events`), the twelve kinds of atomic steps (`AtomicStep`), histories of such steps
-//! (`History`), the recording that an order gives (`Recording`), what running a thread again by its log comes to
-//! (`Following`), and the laws that the recording's steps are a history and that following its logs gives its events, its
-//! outputs and its ends (`Laws`).
+//! Owns: events and log entries (`Events`), the eleven kinds of atomic steps (`AtomicStep`), histories of such steps
+//! (`History`), what a recording is (`Recording`), the recording that an order gives (`Driving`), what running a thread again
+//! by its log comes to (`Following`), and the laws that the recording's steps are a history and that following its logs gives
+//! its events, its outputs and its ends (`Laws`).
 //! The layer above may rely on this: `drive` gives exactly that recording, and an event of `Traces` is seen by `at` alone.
 #![tactic(auto)]
 
-mod acting;
 mod acts;
-mod core_words;
+mod core_state;
 mod driven;
-mod driver;
-mod driving;
+mod driven_thread;
 mod event;
-mod going_on;
 mod kind;
 mod laws;
 mod layout;
-mod next_step;
+mod limits;
+mod rest;
 mod results;
-mod starting;
-mod stepping;
+mod simulation;
+mod simulation_start;
+mod step_choice;
+mod step_effects;
+mod step_words;
 mod traces;
 
-pub use acts::{Acts, HeldTurn, LastStep, OddLooks, Phase, Tally};
-pub use driven::{DriveError, Driven};
-pub use driving::drive;
+pub use acts::{Acts, HeldTurn, LastStep, OddLooks, Phase, SeenNumber, Tally};
+pub use driven::{DriveError, Driven, drive};
 pub use event::{Event, LogEntry, entry_of};
 pub use kind::Kind;
-pub use laws::{driven_is_a_history, driven_is_followed, followed_uses_its_log};
+pub use laws::{
+    driven_is_a_history, driven_is_followed, driven_is_short, followed_uses_its_log, followed_walks,
+    nothing_is_left, walks_are_followed,
+};
+pub use limits::PATIENCE_LIMIT;
 pub use traces::{Place, Traces};
 
 #[cfg(test)]

@@ -8,9 +8,8 @@ ghost use Rattle.interleavings.specs.Events.{log_of as log};
 ghost use Rattle.interleavings.specs.Layout.{index_of};
 
 use crate::acts::Acts;
-use crate::core_words::Core;
+use crate::core_state::Core;
 use crate::event::{Event, LogEntry, entry_of};
-use crate::kind::Kind;
 use sc_machine::{End, StandingThread};
 use std::alloc::Global;
 use std::collections::LinkedList;
@@ -66,7 +65,7 @@ pub fn last_values(alloc: Global, core: &Core) -> Result<List<u64>, NoMemory>
 {
     let mut values = List::new(alloc);
     for cell in 0..core.layout.cells {
-        values.push(core.words[core.layout.index_of(Kind::ValueLoad, cell)])?;
+        values.push(core.words[core.layout.value_word(cell)])?;
     }
     Ok(values)
 }

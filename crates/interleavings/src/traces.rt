@@ -139,6 +139,7 @@ impl Traces {
         requires thread { thread < length self.now.events }
         requires place { place < length (events_of self.now thread) }
         ensures event { result ≡ slice_index_or (events_of self.now thread) place result }
+        ensures range { IsInRange self.now result }
         ensures look { steps.new ≡ steps.old + 1 }
     {
         steps.tick();

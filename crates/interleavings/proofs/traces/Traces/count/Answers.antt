@@ -1,14 +1,14 @@
-use Rattle.std.proofs.Common.{arith}
+use Rattle.std.proofs.Common.{◌≤◌, length, arith}
 use Rattle.std.proofs.lemmas.List.{length-map}
-use Rattle.interleavings.proofs.TraceLemmas.{few_in}
+use Rattle.interleavings.proofs.TraceLemmas.{each_in}
 use Rattle.interleavings.proofs.traces.Traces.count.Goals as goal
 
 pub overflow_cast-result : goal.overflow_cast-result
 overflow_cast-result c =
     let there = simp length-map at (rw (← c.self.view_is) at c.requires) in
-    omega (arith, few_in (λ events. events.items) c.self.inside.events.items c.args.thread c.index.result.now there c.index.ensures c.self.invariant.counts)
+    omega (arith, each_in (λ events. length events ≤ 1000000) (λ events. events.items) c.self.inside.events.items c.args.thread c.index.result.now there c.index.ensures c.self.invariant.counts)
 
 pub returns-clause-small : goal.returns-clause-small
 returns-clause-small c =
     let there = simp length-map at (rw (← c.self.view_is) at c.requires) in
-    omega (arith, few_in (λ events. events.items) c.self.inside.events.items c.args.thread c.index.result.now there c.index.ensures c.self.invariant.counts)
+    omega (arith, each_in (λ events. length events ≤ 1000000) (λ events. events.items) c.self.inside.events.items c.args.thread c.index.result.now there c.index.ensures c.self.invariant.counts)

@@ -1,8 +1,0 @@
-use Rattle.std.proofs.Common.{take}
-use Rattle.interleavings.specs.DriverShows.{Makes}
-use Rattle.interleavings.specs.Recording.{advance_all}
-use Rattle.interleavings.proofs.driver.Driver.follow.Given as goal
-
--- the members so far were followed
-abbrev pub invariant-loop-thread : goal.invariant-loop-thread
-invariant-loop-thread l = Makes (λ g. advance_all g (take l.thread-index l.order)) l.fn.self l.self

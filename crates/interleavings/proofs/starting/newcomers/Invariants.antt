@@ -1,8 +1,0 @@
-use Rattle.std.proofs.Common.{◌≡◌, ◌<◌, ℕ, length, get_or}
-use Rattle.interleavings.specs.declared.acts.Acts.{Acts}
-use Rattle.interleavings.specs.History.{newcomer}
-use Rattle.interleavings.proofs.starting.newcomers.Given as goal
-
--- so many threads that have done nothing
-abbrev pub invariant-loop-who : goal.invariant-loop-who
-invariant-loop-who l = (length l.people.items ≡ l._who) × ((who : ℕ) (d : Acts) → who < l._who → get_or l.people.items who d ≡ newcomer.acts)
