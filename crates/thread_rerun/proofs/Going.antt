@@ -11,6 +11,7 @@ use Rattle.thread_rerun.specs.Shows.{Suits}
 pub suits_takes : (stop : Stop) (event : Event) → Suits stop event → TakesWord stop (word_in event)
 suits_takes (stops.Read at) (events.Read cell value bound) suits = tt
 suits_takes (stops.Write at word) (events.Write cell value number) suits = tt
+suits_takes (stops.Update at change) (events.Update cell old new number) suits = tt
 suits_takes (stops.Enter at) (events.Enter monitor turn) suits = tt
 suits_takes (stops.Exit at) (events.Exit monitor turn) suits = tt
 suits_takes stop event suits = absurd suits

@@ -12,8 +12,8 @@ use Rattle.sc_machine.specs.ThreadRun.{IsShared}
 use Rattle.interleavings.specs.declared.event.Event.{Event}
 use Rattle.interleavings.specs.declared.event.Event.TheVariants as events
 use Rattle.interleavings.specs.declared.event.LogEntry.{LogEntry}
-use Rattle.interleavings.specs.Recording.{behind}
-use Rattle.interleavings.proofs.Walks.{behind-made}
+use Rattle.interleavings.specs.EventStep.{after_event}
+use Rattle.interleavings.proofs.Walks.{after_event-made}
 use Rattle.interleavings.specs.TraceLists.{TraceLists, events_of, with_event_of}
 use Rattle.interleavings.specs.Following.{Met, Makes, Over, Off, Followed, met_of, on_met, event_before, follow_from, place_after, turns_after}
 use Rattle.thread_rerun.specs.declared.follower.Follower.{Follower}
@@ -32,7 +32,7 @@ before_nothing : (r : Result Followed ℕ) → r ≡ events_before [] r
 before_nothing (Ok rest) = refl
 before_nothing (Err place) = refl
 
--- an event behind the others
+-- an event after the others
 before_one : (es : List Event) (event : Event) (r : Result Followed ℕ) → events_before es (event_before event r) ≡ events_before (es ++ event ∷ []) r
 before_one es event (Ok rest) = ap (λ events. Ok (record rest { events = events })) (sym (append_assoc es (event ∷ []) rest.events))
 before_one es event (Err place) = refl
@@ -84,7 +84,7 @@ met_is m tells this that = sym (same_met m) ∙ ap told_met (sym that ∙ this)
 -- one turn of following, by what is met where the thread stands
 module _ (p : Listing) (fuel t : ℕ) (log : List LogEntry) (place : ℕ) (turns : ℕ → ℕ) (s : Thread) (stop : Stop) (next : Option LogEntry) where
   abbrev goes : ℕ → Event → Result Followed ℕ
-  goes n event = follow_from p fuel t log n (place_after event place) (turns_after event turns) (behind p fuel t event s)
+  goes n event = follow_from p fuel t log n (place_after event place) (turns_after event turns) (after_event p fuel t event s)
 
   turn_of : (n : ℕ) (m : Met) → now p t s ≡ Stands stop → next ≡ slice_get log place → met_of stop next turns ≡ m → follow_from p fuel t log (suc n) place turns s ≡ on_met place s (goes n) m
   unfolding follow_from
@@ -100,18 +100,21 @@ module _ (p : Listing) (fuel t : ℕ) (log : List LogEntry) (place : ℕ) (turns
 suits_shared : (stop : Stop) (event : Event) → Suits stop event → IsShared stop
 suits_shared (stops.Read at) event suits = tt
 suits_shared (stops.Write at word) event suits = tt
+suits_shared (stops.Update at change) event suits = tt
 suits_shared (stops.Enter at) event suits = tt
 suits_shared (stops.Exit at) event suits = tt
 suits_shared (stops.Ended end) (events.Read cell value bound) suits = suits
 suits_shared (stops.Ended end) (events.Write cell value number) suits = suits
+suits_shared (stops.Ended end) (events.Update cell old new number) suits = suits
 suits_shared (stops.Ended end) (events.Enter monitor turn) suits = suits
 suits_shared (stops.Ended end) (events.Exit monitor turn) suits = suits
 
--- the place behind an event
+-- the place after an event
 place_grows : (event : Event) (place : ℕ) → place_after event place ≤ place + 1
 place_grows (events.Exit monitor turn) place = omega arith
 place_grows (events.Read cell value bound) place = omega arith
 place_grows (events.Write cell value number) place = omega arith
+place_grows (events.Update cell old new number) place = omega arith
 place_grows (events.Enter monitor turn) place = omega arith
 
 module _ (old half : Follower) (log : List LogEntry) (t : ℕ) (before sofar : TraceLists) (going : Going old half log t before sofar) (stop : Stop) (stands : now half.thread.program half.thread.number half.thread.state ≡ Stands stop) (next : Option LogEntry) (is_next : next ≡ slice_get log half.place) (result : Told) (meets : result ≡ seen_met (met_of stop next (turns_in half))) where
@@ -136,13 +139,13 @@ module _ (old half : Follower) (log : List LogEntry) (t : ℕ) (before sofar : T
       let left : s.made < half.thread.fuel = fuel_left (suits_shared stop event fits) in
       let k = is_more (fuel - s.made) going.n going.enough in
       let es : List Event = going.so_far ++ event ∷ [] in
-      let s' : Thread = behind p fuel t event s in
+      let s' : Thread = after_event p fuel t event s in
       let same : new.thread.state ≡ s'
       = ap (λ (x : Standing). x.state) gone.thread
-      ∙ ap (λ q. behind q half.thread.fuel half.thread.number event s) f.program
-      ∙ ap (λ limit. behind p limit half.thread.number event s) f.fuel_is
-      ∙ ap (λ u. behind p fuel u event s) f.which in
-      let grows : s.made < new.thread.state.made = omega (arith, behind-made p fuel t event s, ap (λ (x : Thread). x.made) same) in
+      ∙ ap (λ q. after_event q half.thread.fuel half.thread.number event s) f.program
+      ∙ ap (λ limit. after_event p limit half.thread.number event s) f.fuel_is
+      ∙ ap (λ u. after_event p fuel u event s) f.which in
+      let grows : s.made < new.thread.state.made = omega (arith, after_event-made p fuel t event s, ap (λ (x : Thread). x.made) same) in
       let traces : with_event_of sofar t event ≡ with_events before t (going.so_far ++ event ∷ []) = ap (λ tr. with_event_of tr t event) going.traces ∙ with_one before t going.so_far event inside in
       record {
         is_thread = record {
@@ -169,7 +172,7 @@ module _ (old half : Follower) (log : List LogEntry) (t : ℕ) (before sofar : T
   pub falls : (event : Event) → Suits stop event → (IsShared stop → s.made < half.thread.fuel) → (new : Follower) → IsGone half new event → new.thread.fuel - new.thread.state.made < half.thread.fuel - s.made
   falls event fits fuel_left new gone =
       let left : s.made < half.thread.fuel = fuel_left (suits_shared stop event fits) in
-      omega (arith, left, behind-made half.thread.program half.thread.fuel half.thread.number event s, ap (λ (x : Standing). x.state.made) gone.thread, ap (λ (x : Standing). x.fuel) gone.thread)
+      omega (arith, left, after_event-made half.thread.program half.thread.fuel half.thread.number event s, ap (λ (x : Standing). x.state.made) gone.thread, ap (λ (x : Standing). x.fuel) gone.thread)
 
   pub off : result ≡ told.Off → following old log t ≡ Err half.place
   off is =

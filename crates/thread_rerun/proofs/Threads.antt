@@ -120,7 +120,7 @@ module _ (p : Listing) (fuel : ℕ) (logs : List (List LogEntry)) where
         ∙ ap (λ k. threads_before at.done (follow_all_from p fuel t k (drop t logs))) one_less
         ∙ ap (λ rest. threads_before at.done (follow_all_from p fuel t (suc left) rest)) (drop_of_length-le logs past))
 
-  -- behind the last thread
+  -- after the last thread
   module _ (r : Rerun) (at : AtThread p fuel logs n r) where
     none_left : n - n ≡ 0
     none_left = omega arith

@@ -33,7 +33,7 @@ abbrev pub again_if : Listing → Result (List Followed) Divergence → Result A
 again_if p (Ok all) = Ok (again_of p all)
 again_if p (Err divergence) = Err divergence
 
--- the threads of the program run again by these logs, or where the least thread that does parts from its log
+-- the threads of the program run again by these logs, or where the least thread that does diverges from its log
 abbrev pub again : Listing → ℕ → List (List LogEntry) → Result Again Divergence
 again p fuel logs = again_if p (follow_all p fuel logs)
 

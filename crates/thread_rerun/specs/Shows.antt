@@ -1,5 +1,6 @@
 -- What the code keeps and answers, beside what following says. Only private clauses cite this module.
-use Rattle.std.specs.Prelude.{◌≡◌, ℕ, ◌+◌, ◌-◌, ◌<◌, ◌≤◌, List, [], ◌∷◌, ◌++◌, length, map, drop, replicate, Result, Ok, Err, slice_index, slice_set}
+use Rattle.std.specs.Prelude.{◌≡◌, ℕ, ◌+◌, ◌-◌, ◌<◌, ◌≤◌, List, [], ◌∷◌, ◌++◌, length, map, drop, replicate, Option, Some, None, Result, Ok, Err, slice_index, slice_set}
+use Rattle.stride_isa.specs.Changes.{applied}
 use Rattle.stride_isa.specs.Listing.{Listing, cell_count, starts_of}
 use Rattle.sc_machine.specs.declared.stop.Stop.{Stop}
 use Rattle.sc_machine.specs.declared.stop.Stop.TheVariants as stops
@@ -9,7 +10,7 @@ use Rattle.sc_machine.specs.Schedule.{stopped}
 use Rattle.interleavings.specs.declared.event.Event.{Event}
 use Rattle.interleavings.specs.declared.event.Event.TheVariants as events
 use Rattle.interleavings.specs.declared.event.LogEntry.{LogEntry}
-use Rattle.interleavings.specs.Events.{word_given}
+use Rattle.interleavings.specs.Events.{TurnOf, entered_by, word_given}
 use Rattle.interleavings.specs.TraceLists.{TraceLists, events_of}
 use Rattle.interleavings.specs.Following.{Met, Makes, Over, Off, Divergence, Followed, follow, follow_all, follow_all_from, follow_from, place_after, turns_after}
 use Rattle.thread_rerun.specs.Rerunning.{Again, rerun_seen}
@@ -31,15 +32,20 @@ abbrev pub HasMonitor : Stop → Type 0
 HasMonitor (stops.Exit monitor) = monitor < 64
 HasMonitor stop = Unit {0}
 
+-- a turn that is begun is of one of 64 monitors
+abbrev pub IsBelow : Option TurnOf → Type 0
+IsBelow None = Unit {0}
+IsBelow (Some begun) = begun.monitor < 64
+
 -- an entry names one of 64 monitors
 abbrev pub MonitorBelow : Event → Type 0
-MonitorBelow (events.Enter monitor turn) = monitor < 64
-MonitorBelow event = Unit {0}
+MonitorBelow event = IsBelow (entered_by event)
 
 -- the event is one of this shared instruction
 abbrev pub Suits : Stop → Event → Type 0
 Suits (stops.Read at) (events.Read cell value bound) = cell ≡ at
 Suits (stops.Write at word) (events.Write cell value number) = (cell ≡ at) × (value ≡ word)
+Suits (stops.Update at change) (events.Update cell old new number) = (cell ≡ at) × (new ≡ applied change old)
 Suits (stops.Enter at) (events.Enter monitor turn) = monitor ≡ at
 Suits (stops.Exit at) (events.Exit monitor turn) = monitor ≡ at
 Suits stop event = ⊥
@@ -57,7 +63,7 @@ turns_in f m = slice_index f.turns m
 abbrev pub no_turns : ℕ → ℕ
 no_turns m = 0
 
--- the follower has gone on behind this event
+-- the follower has gone on after this event
 pub record IsGone (old new : Follower) (event : Event) : Type 0 where
   pub thread : new.thread ≡ standing_after (word_given event) old.thread
   pub place : new.place ≡ place_after event old.place

@@ -17,14 +17,15 @@ pub(crate) struct Follower<'p> {
     pub(crate) turns: [u32; 64],
 }
 
-// The place of the next entry behind an event.
+// The place of the next entry after an event. An exit uses none.
 fn next_place(place: usize, event: Event) -> usize
     requires { place < 18446744073709551615 }
     ensures { result ≡ place_after event place }
 {
     match event {
-        Event::Exit { mon: _, turn: _ } => place,
-        _ => place + 1,
+        Event::Exit { .. } => place,
+        Event::Read { .. } | Event::Write { .. } | Event::Update { .. } | Event::Enter { .. } =>
+            place + 1,
     }
 }
 
@@ -63,7 +64,7 @@ impl<'p> Follower<'p> {
         })
     }
 
-    /// Goes on behind an event that the thread met.
+    /// Goes on after an event that the thread met.
     pub(crate) fn go(&mut self, event: Event)
         requires suits { Suits (stop_here self.old.thread) event }
         requires monitor { MonitorBelow event }

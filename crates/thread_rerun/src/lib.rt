@@ -1,8 +1,8 @@
 //! Running a thread again from its log.
 //!
 //! Owns: what contracts see of threads that were run again (`Rerunning`). What following is stands in `interleavings`.
-//! The layer above may rely on this: `rerun` gives what following every thread gives, or where the least thread parts from
-//! its log.
+//! The layer above may rely on this: `rerun` gives what following every thread gives, or where the least thread diverges
+//! from its log.
 #![tactic(auto)]
 
 mod follower;

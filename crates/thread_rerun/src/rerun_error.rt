@@ -4,7 +4,7 @@ use stride_base::NoMemory as OutOfMemory;
 /// Why threads were not run again.
 #[derive(Clone, Copy, Debug, PartialEq, Eq)]
 pub enum RerunError {
-    /// The thread parts from its log at this place: the entry is of another kind than what the thread does there, or is left
+    /// The thread diverges from its log at this place: the entry is of another kind than what the thread does there, or is left
     /// when it has ended; or there is a thread without a log or a log without a thread, at place 0.
     Diverges { thread: u32, place: u32 },
     /// Memory ran out.

@@ -45,7 +45,7 @@ fn rerun_thread(
     Ok(())
 }
 
-/// Runs each thread of the program again by its code, where its log answers its reads, its writes and its entries into
+/// Runs each thread of the program again by its code, where its log answers its reads, writes, updates and entries into
 /// monitors. Where the log is used up before one of these, the thread is stopped there.
 pub fn rerun(
     alloc: Global,
