@@ -3,10 +3,12 @@ pub mod Advancing
 pub mod Beginning
 pub mod Begins
 pub mod Ending
+pub mod Examples
 pub mod Exits
 pub mod FewLogs
 pub mod Finishes
 pub mod FollowedWalks
+pub mod FollowingExamples
 pub mod FollowsLogs
 pub mod Going
 pub mod Happening

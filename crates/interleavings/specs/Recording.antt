@@ -1,8 +1,10 @@
 -- Recordings: what is kept of a run of a program's threads over the shared words, however their steps interleaved.
-use Rattle.std.specs.Prelude.{◌≡◌, ◌⊎◌, ℕ, ◌<◌, Bool, true, false, Option, Some, None, nat_le, List, [], ◌∷◌, map, length, Ok}
+use Rattle.std.specs.Prelude.{◌≡◌, ◌⊎◌, ℕ, ◌<◌, Bool, true, false, Option, Some, None, nat_le, slice_get, List, [], ◌∷◌, map, length, Ok}
 use Rattle.std.specs.List.{range_with_len}
-use Rattle.stride_isa.specs.Listing.{Listing, cell_count, starts_of}
+use Rattle.stride_isa.specs.Listing.{Listing, cell_count, op_at, starts_of}
+use Rattle.stride_isa.specs.declared.op.Op.TheVariants as ops
 use Rattle.sc_machine.specs.declared.end.End.{End}
+use Rattle.sc_machine.specs.declared.end.End.TheVariants.{Halted, Trapped, OutOfSteps, Stopped}
 use Rattle.sc_machine.specs.Schedule.{thread_numbers}
 use Rattle.sc_machine.specs.ThreadStep.{end_of}
 use Rattle.interleavings.specs.declared.acts.Acts.{Acts}
@@ -71,3 +73,24 @@ pub record IsFollowed (g : Setting) (recording : Recording) (steps : List Step) 
   pub events : map (λ (f : Followed). f.events) followed ≡ map (λ t. (acts_of g steps t).events) (thread_numbers g.program)
   pub outputs : map (λ (f : Followed). f.thread.out) followed ≡ recording.outputs
   pub ends : map (λ (f : Followed). end_of f.thread) followed ≡ recording.ends
+
+-- a thread gave up at the instruction at this position: its row of odd looks has reached the patience, and the instruction
+-- enters the monitor of that row
+abbrev pub GaveUpAt : Setting → ℕ → Option OddLooks → ℕ → Type 0
+GaveUpAt g t None pc = ⊥
+GaveUpAt g t (Some row) pc = (row.count ≡ g.patience) × (op_at g.program t pc ≡ ops.Enter row.mon)
+
+-- the end of a thread whose looks were these: it ended as stopped exactly where it gave up
+abbrev pub IsEndAfter : Setting → ℕ → Option OddLooks → End → Type 0
+IsEndAfter g t row Halted = gives_up g.patience row ≡ false
+IsEndAfter g t row (Trapped trap pc) = gives_up g.patience row ≡ false
+IsEndAfter g t row OutOfSteps = gives_up g.patience row ≡ false
+IsEndAfter g t row (Stopped pc) = GaveUpAt g t row pc
+
+-- a recording of the program's threads: some history of atomic steps has its logs and last values, following the logs gives
+-- the events of these steps with its outputs and ends, and a thread ended as stopped exactly where it gave up
+pub record IsRecording (g : Setting) (recording : Recording) : Type 0 where
+  pub steps : List Step
+  pub history : IsHistoryOf g recording steps
+  pub followed : IsFollowed g recording steps
+  pub ends : (t : ℕ) (end : End) → slice_get recording.ends t ≡ Some end → IsEndAfter g t (acts_of g steps t).looks end
