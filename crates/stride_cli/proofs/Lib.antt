@@ -2,7 +2,6 @@ pub mod Accepted
 pub mod Begins
 pub mod Followed
 pub mod Going
-pub mod Labels
 pub mod OneAnswer
 pub mod Playthrough
 pub mod Turning
