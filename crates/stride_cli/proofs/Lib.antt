@@ -1,4 +1,5 @@
 pub mod Accepted
+pub mod AnAnswer
 pub mod Begins
 pub mod Followed
 pub mod Going
