@@ -14,7 +14,8 @@ use std::{env, io};
 use stride_base::{StdSink, StdSource, Steps};
 use stride_cli::{Status, offline};
 
-/// The words behind the program's name. A word that is no UTF-8 makes the command line a faulty one.
+/// The words after the program's name. A command line with a word that is no UTF-8 is a faulty one, as one with an empty
+/// word is: no command has such a name.
 fn words_of(rt: &HostRuntime) -> Result<Vec<String>, Status> {
     match env::args(rt) {
         Ok(args) => args

@@ -5,7 +5,7 @@ use Rattle.stride_isa.specs.Listing.{Listing}
 use Rattle.stride_isa.specs.declared.check_error.CheckError.{CheckError}
 use Rattle.stride_isa.specs.declared.check_error.CheckError.TheVariants.{Bad, NoMemory}
 use Rattle.assembler.specs.Programs.{LineFault}
-use Rattle.stride_cli.specs.Accepting.{Accepts}
+use Rattle.stride_cli.specs.Inputs.{Accepts}
 use Rattle.stride_cli.specs.Answers.{Answer, AnswersText, refused_code}
 use Rattle.stride_cli.specs.Refusals.{of_check}
 use Rattle.stride_cli.specs.declared.refusal.Refusal.{Refusal}

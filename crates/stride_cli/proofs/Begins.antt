@@ -1,36 +1,27 @@
--- One more player starts.
-use Rattle.std.proofs.Common.{◌≡◌, ℕ, zero, suc, ◌+◌, ◌∙◌, inl, inr, List, [], ◌∷◌, ◌++◌, length, map, refl, sym, ap, subst, arith, get_or, Option, None, append_assoc, length-append}
-use Rattle.std.specs.List.{flat_map, range_with_len}
-use Rattle.std.proofs.lemmas.Bool.{cases_lt}
+-- The table at the start: one more player, and what all players are.
+use Rattle.std.proofs.Common.{◌≡◌, ℕ, zero, suc, ◌+◌, ◌<◌, ◌∙◌, List, [], ◌∷◌, ◌++◌, length, map, refl, sym, ap, arith, get_or, Option, None, append_assoc}
+use Rattle.std.specs.List.{flat_map, range_with_len, slice_index_or}
 use Rattle.std.proofs.lemmas.Grind.{flat_map-append}
-use Rattle.std.proofs.lemmas.List.{append-nil, map-append}
-use Rattle.std.proofs.Math.ListN.{get_or-append, replicate}
-use Rattle.std.proofs.Math.Seq.{get_or-append_seam}
+use Rattle.std.proofs.lemmas.List.{append-nil, get_or-map, length-map, map-append}
+use Rattle.std.proofs.lemmas.List.FromFn.{get_or-map-range_with_len, length-map-range_with_len, map-range_with_len_more}
+use Rattle.std.proofs.lemmas.Simd.{map-map}
+use Rattle.std.proofs.Math.ListN.{replicate}
 use Rattle.stride_isa.specs.Listing.{Listing}
 use Rattle.sc_machine.specs.ThreadStep.{start_thread, settled}
+use Rattle.sc_machine.specs.StandingThread.{Standing, IsThreadOf, started_at}
 use Rattle.sc_machine.specs.Schedule.{settled_lines}
 use Rattle.sc_machine.specs.Transcript.{spelled, transcript_bytes}
 use Rattle.interleavings.proofs.Going.{range_more}
-use Rattle.stride_cli.specs.declared.player.Player.{Player}
-use Rattle.stride_cli.specs.Playing.{ArePlayers, IsPlayer, thread_of}
+use Rattle.stride_cli.specs.declared.playing.player.Player.{Player}
+use Rattle.stride_cli.specs.Players.{ArePlayers, thread_of}
 
-pub players_more : (p : Listing) (fuel n : ℕ) (players : List Player) (player : Player) → ArePlayers p fuel n players → IsPlayer p fuel n player → thread_of player ≡ settled p fuel n start_thread → ArePlayers p fuel (n + 1) (players ++ player ∷ [])
-players_more p fuel n players player are is settles = record {
-  long = omega (arith, length-append players (player ∷ []), are.long);
-  settles = map-append thread_of players (player ∷ [])
-      ∙ ap (λ ts. ts ++ thread_of player ∷ []) are.settles
-      ∙ ap (λ t. map (λ t. settled p fuel t start_thread) (range_with_len 0 n) ++ t ∷ []) settles
-      ∙ sym (map-append (λ t. settled p fuel t start_thread) (range_with_len 0 n) (n ∷ []))
-      ∙ ap (map (λ t. settled p fuel t start_thread)) (sym (range_more n));
-  each = λ t d below. elim (cases_lt t n) [
-    | inl lt ↦ subst (λ (q : Player). IsPlayer p fuel t q) (sym (get_or-append players (player ∷ []) d t (omega (arith, are.long)))) (are.each t d lt)
-    | inr ge ↦
-        let same : t ≡ length players = omega (arith, are.long) in
-        let number : n ≡ t = omega arith in
-        let here : get_or (players ++ player ∷ []) t d ≡ player = ap (λ k. get_or (players ++ player ∷ []) k d) same ∙ get_or-append_seam players player [] d in
-        subst (λ (k : ℕ). IsPlayer p fuel k (get_or (players ++ player ∷ []) t d)) number (subst (λ (q : Player). IsPlayer p fuel n q) (sym here) is)
-  ];
-}
+pub players_more : (p : Listing) (fuel n : ℕ) (players : List Player) (player : Player) → ArePlayers p fuel n players → player.thread ≡ started_at p fuel n → ArePlayers p fuel (n + 1) (players ++ player ∷ [])
+players_more p fuel n players player are is =
+    let same : 0 + n ≡ n = omega arith in
+    map-append (λ (q : Player). q.thread) players (player ∷ [])
+    ∙ ap (λ ts. ts ++ player.thread ∷ []) are
+    ∙ ap (λ t. map (started_at p fuel) (range_with_len 0 n) ++ t ∷ []) is
+    ∙ sym (map-range_with_len_more (started_at p fuel) 0 n n same)
 
 pub lines_more : (p : Listing) (fuel n : ℕ) (before lines lines' : List ℕ) → lines ≡ before ++ transcript_bytes (flat_map (λ t. settled_lines p fuel t start_thread) (range_with_len 0 n)) → lines' ≡ lines ++ transcript_bytes (settled_lines p fuel n start_thread) → lines' ≡ before ++ transcript_bytes (flat_map (λ t. settled_lines p fuel t start_thread) (range_with_len 0 (n + 1)))
 lines_more p fuel n before lines lines' so_far more =
@@ -43,6 +34,34 @@ lines_more p fuel n before lines lines' so_far more =
     ∙ ap (λ ls. ls ++ transcript_bytes (settled_lines p fuel n start_thread)) so_far
     ∙ append_assoc before (transcript_bytes some) (transcript_bytes (settled_lines p fuel n start_thread))
     ∙ ap (λ ls. before ++ ls) (sym (flat_map-append spelled some (settled_lines p fuel n start_thread)) ∙ ap transcript_bytes (sym last))
+
+module _ (p : Listing) (fuel count : ℕ) (players : List Player) (are : ArePlayers p fuel count players) where
+  pub players_long : length players ≡ count
+  players_long =
+      sym (length-map players (λ (q : Player). q.thread))
+      ∙ ap length are
+      ∙ length-map-range_with_len (started_at p fuel) 0 count
+
+  pub players_settle : map thread_of players ≡ map (λ t. settled p fuel t start_thread) (range_with_len 0 count)
+  players_settle =
+      sym (map-map (λ (s : Standing). s.state) (λ (q : Player). q.thread) players)
+      ∙ ap (map (λ (s : Standing). s.state)) are
+      ∙ map-map (λ (s : Standing). s.state) (started_at p fuel) (range_with_len 0 count)
+
+  pub player_at : (t : ℕ) (d : Player) → t < length players → IsThreadOf p fuel t (slice_index_or players t d).thread
+  player_at t d below =
+      let player : Player = get_or players t d in
+      let lt : t < count = omega (arith, players_long) in
+      let same : 0 + t ≡ t = omega arith in
+      let started : player.thread ≡ started_at p fuel t =
+      sym (get_or-map (λ (q : Player). q.thread) players t d d.thread below)
+      ∙ ap (λ ts. get_or ts t d.thread) are
+      ∙ get_or-map-range_with_len (started_at p fuel) 0 count t t d.thread lt same in
+      record {
+        program = ap (λ (s : Standing). s.program) started;
+        fuel_is = ap (λ (s : Standing). s.fuel) started;
+        which = ap (λ (s : Standing). s.number) started;
+      }
 
 -- no monitor is held in a row of nobodies
 pub none_held : (n k : ℕ) → get_or {A = Option ℕ} (replicate n None) k None ≡ None

@@ -4,11 +4,12 @@ use Rattle.std.specs.Bool.{MatchBool}
 use Rattle.stride_isa.specs.Laws.{OneVerdict}
 use Rattle.stride_isa.specs.Listing.{Listing}
 use Rattle.assembler.specs.Programs.{LineFault, spelled}
-use Rattle.stride_cli.specs.declared.command.Command.{Command}
-use Rattle.stride_cli.specs.declared.command.Command.TheVariants.{Check, Follow, Sim, Show}
-use Rattle.stride_cli.specs.Answers.{Answer, AnswersText, AnswersInput, AnswersBy, judged, input_limit, program_part}
-use Rattle.stride_cli.specs.Commands.{command_named}
+use Rattle.stride_cli.specs.declared.words.Command.{Command}
+use Rattle.stride_cli.specs.declared.words.Command.TheVariants.{Check, Follow, Sim, Show}
+use Rattle.stride_cli.specs.Answers.{Answer, AnswersText, AnswersInput, AnswersBy, judged, program_part}
 use Rattle.stride_cli.specs.Laws.{OneAnswer}
+use Rattle.stride_cli.specs.Settings.{input_limit}
+use Rattle.stride_cli.specs.Words.{command_named}
 
 one_text : OneVerdict → (s : Result Listing LineFault) (accepted : Listing → Answer) (answer other : Answer) → AnswersText s accepted answer → AnswersText s accepted other → answer ≡ other
 one_text one (Err fault) accepted answer other is same = is ∙ sym same

@@ -10,16 +10,17 @@ use Rattle.stride_isa.specs.Listing.{Listing, cell_count}
 use Rattle.sc_machine.specs.declared.stop.Stop.{Stop}
 use Rattle.sc_machine.specs.declared.stop.Stop.TheVariants.{Read, Write, Enter, Exit, Ended}
 use Rattle.sc_machine.specs.ThreadStep.{Stands, start_thread, now, settled, answered}
-use Rattle.sc_machine.specs.StandingThread.{IsThreadOf}
+use Rattle.sc_machine.specs.Laws.{TurnByStop}
+use Rattle.sc_machine.specs.StandingThread.{Standing, IsThreadOf}
 use Rattle.sc_machine.specs.ThreadRun.{NamesCell}
 use Rattle.sc_machine.specs.Machine.{Machine, thread_at, may_pass, can, is_free_for, put, word_read, cells_after, holders_after}
 use Rattle.sc_machine.specs.Schedule.{settled_lines, turn, turned}
 use Rattle.sc_machine.specs.Transcript.{spelled, transcript_bytes}
 use Rattle.std.proofs.lemmas.Grind.{flat_map-append}
-use Rattle.sc_machine.proofs.AtStop.{turn-standing, can-standing}
-use Rattle.stride_cli.specs.declared.player.Player.{Player}
-use Rattle.stride_cli.specs.declared.table.Table.{Table}
-use Rattle.stride_cli.specs.Playing.{IsPlayer, IsTable, Shows, WentOn, cells_in, holders_in, may_in, thread_of, word_in}
+use Rattle.stride_cli.specs.declared.playing.player.Player.{Player}
+use Rattle.stride_cli.specs.declared.playing.table.Table.{Table}
+use Rattle.stride_cli.specs.Players.{WentOn, thread_of}
+use Rattle.stride_cli.specs.Tables.{IsTable, Shows, cells_in, holders_in, may_in, word_in}
 
 -- the thread of the machine that a player plays
 shown_thread : (table : Table) (m : Machine) (t : ℕ) (d : Player) → Shows table m → t < length table.players.items → d ≡ get_or table.players.items t d → thread_at m t ≡ thread_of d
@@ -88,17 +89,38 @@ abbrev pub table_after : Table → ℕ → Player → Stop → Listed ℕ → Ta
 table_after table t player stop transcript =
     record { program = table.program; fuel = table.fuel; players = with_item table.players t player; cells = cells_in stop table.cells; holders = holders_in t stop table.holders; transcript = transcript }
 
-module _ (table : Table) (t : ℕ) (old new : Player) (transcript : Listed ℕ) (stop : Stop) where
+-- a thread of this program went on, as it is told by the program, the fuel and its number
+pub record Went (p : Listing) (fuel t word : ℕ) (old new : Standing) (lines lines' : List ℕ) : Type 0 where
+  pub thread : IsThreadOf p fuel t new
+  pub settles : new.state ≡ settled p fuel t (answered p fuel t word old.state)
+  pub printed : lines' ≡ lines ++ transcript_bytes (settled_lines p fuel t (answered p fuel t word old.state))
+
+went_by : (p : Listing) (fuel t word : ℕ) (old new : Standing) (lines lines' : List ℕ) → IsThreadOf p fuel t old → WentOn old new word lines lines' → Went p fuel t word old new lines lines'
+went_by p fuel t word old new lines lines' is went =
+    subst (λ (n : ℕ). Went p fuel n word old new lines lines') is.which
+    (subst (λ (n : ℕ). Went p n old.number word old new lines lines') is.fuel_is
+    (subst (λ (q : Listing). Went q old.fuel old.number word old new lines lines') is.program
+    (record {
+      thread = record {
+        program = ap (λ (s : Standing). s.program) went.goes;
+        fuel_is = ap (λ (s : Standing). s.fuel) went.goes;
+        which = ap (λ (s : Standing). s.number) went.goes;
+      };
+      settles = ap (λ (s : Standing). s.state) went.goes;
+      printed = went.printed;
+    })))
+
+module _ (by_stops : TurnByStop) (table : Table) (t : ℕ) (old new : Player) (transcript : Listed ℕ) (stop : Stop) where
   abbrev p : Listing
   p = table.program.now
 
   abbrev after : Table
   after = table_after table t new stop transcript
 
-  abbrev Went : Type 0
-  Went = WentOn p table.fuel t (word_in stop table.cells) old new table.transcript.items transcript.items
+  abbrev Gone : Type 0
+  Gone = Went p table.fuel t (word_in stop table.cells) old.thread new.thread table.transcript.items transcript.items
 
-  pub still_table : IsTable table → t < length table.players.items → Went → IsTable after
+  pub still_table : IsTable table → t < length table.players.items → Gone → IsTable after
   still_table is lt went = record {
     count = length-set table.players.items t new ∙ is.count;
     room = omega (arith, is.room, cells_long stop table.cells);
@@ -107,28 +129,29 @@ module _ (table : Table) (t : ℕ) (old new : Player) (transcript : Listed ℕ) 
       | inl same ↦
           let e : k ≡ t = same.1 in
           let here : get_or (set table.players.items t new) k d ≡ new = ap (λ n. get_or (set table.players.items t new) n d) e ∙ get_or-set_same table.players.items t new d lt in
-          subst (λ (n : ℕ). IsPlayer p table.fuel n (get_or (set table.players.items t new) k d)) (sym e) (subst (λ (player : Player). IsPlayer p table.fuel t player) (sym here) went.player)
+          subst (λ (n : ℕ). IsThreadOf p table.fuel n (get_or (set table.players.items t new) k d).thread) (sym e) (subst (λ (player : Player). IsThreadOf p table.fuel t player.thread) (sym here) went.thread)
       | inr other ↦
           let differ : k ≢ t = other.1 in
           let there : get_or (set table.players.items t new) k d ≡ get_or table.players.items k d = get_or-set_other table.players.items t k new d differ in
-          subst (λ (player : Player). IsPlayer p table.fuel k player) (sym there) (is.each k d (omega (arith, length-set table.players.items t new)))
+          subst (λ (player : Player). IsThreadOf p table.fuel k player.thread) (sym there) (is.each k d (omega (arith, length-set table.players.items t new)))
     ];
   }
 
-  pub turn_taken : (m : Machine) → IsTable table → t < length table.players.items → old ≡ get_or table.players.items t old → now p t (thread_of old) ≡ Stands stop → NamesCell p stop → may_in t stop table.holders ≡ true → Went → Shows table m → (can p t m ≡ true) × Shows after (turn p table.fuel t m)
+  pub turn_taken : (m : Machine) → IsTable table → t < length table.players.items → old ≡ get_or table.players.items t old → now p t (thread_of old) ≡ Stands stop → NamesCell p stop → may_in t stop table.holders ≡ true → Gone → Shows table m → (can p t m ≡ true) × Shows after (turn p table.fuel t m)
   unfolding turned
   turn_taken m is lt whose stands_here names may went shows =
       let thread = shown_thread table m t old shows lt whose in
       let there : t < length m.threads = omega (arith, ap length shows.threads, length-map table.players.items thread_of) in
       let stands : now p t (thread_at m t) ≡ Stands stop = ap (λ s. now p t s) thread ∙ stands_here in
-      let by_stop = turn-standing p table.fuel t stop m there stands in
+      let law = by_stops p table.fuel t stop m there stands in
+      let by_stop = law.1 in
       let word = word_shown table m stop shows names in
       let answer : answered p table.fuel t (word_in stop table.cells) (thread_of old) ≡ answered p table.fuel t (word_read stop m.cells) (thread_at m t) =
       ap (λ w. answered p table.fuel t w (thread_of old)) word ∙ ap (λ s. answered p table.fuel t (word_read stop m.cells) s) (sym thread) in
       let threads = ap (λ (k : Machine). k.threads) by_stop in
       let cells = ap (λ (k : Machine). k.cells) by_stop in
       let lines = ap (λ (k : Machine). k.transcript) by_stop in (
-        can-standing p t stop m there stands ∙ sym (may_shown table m t stop shows names) ∙ may,
+        law.0 ∙ sym (may_shown table m t stop shows names) ∙ may,
         record {
           threads = threads
               ∙ ap (λ xs. set xs t (settled p table.fuel t (answered p table.fuel t (word_read stop m.cells) (thread_at m t)))) shows.threads
@@ -145,7 +168,7 @@ module _ (table : Table) (t : ℕ) (old new : Player) (transcript : Listed ℕ) 
         },
       )
 
-module _ (table : Table) (t : ℕ) (old new : Player) (transcript : Listed ℕ) (told stop : Stop) (word : ℕ) (stands : now old.thread.program old.thread.number (thread_of old) ≡ Stands told) (names : NamesCell old.thread.program told) (is_stop : told ≡ stop) (is_word : word ≡ word_in stop table.cells) (went : WentOn old.thread.program old.thread.fuel old.thread.number word old new table.transcript.items transcript.items) (is : IsTable table) (found : slice_get table.players.items t ≡ Some old) where
+module _ (by_stops : TurnByStop) (table : Table) (t : ℕ) (old new : Player) (transcript : Listed ℕ) (told stop : Stop) (word : ℕ) (stands : now old.thread.program old.thread.number (thread_of old) ≡ Stands told) (names : NamesCell old.thread.program told) (is_stop : told ≡ stop) (is_word : word ≡ word_in stop table.cells) (went : WentOn old.thread new.thread word table.transcript.items transcript.items) (is : IsTable table) (found : slice_get table.players.items t ≡ Some old) where
   abbrev table' : Table
   table' = table_after table t new stop transcript
 
@@ -156,7 +179,7 @@ module _ (table : Table) (t : ℕ) (old new : Player) (transcript : Listed ℕ) 
   whose = sym (get_or_from_slice_get table.players.items t old old found)
 
   thread_is : IsThreadOf table.program.now table.fuel t old.thread
-  thread_is = subst (λ (player : Player). IsThreadOf table.program.now table.fuel t player.thread) (sym whose) ((is.each t old within).is_thread)
+  thread_is = subst (λ (player : Player). IsThreadOf table.program.now table.fuel t player.thread) (sym whose) (is.each t old within)
 
   stands_there : now table.program.now t (thread_of old) ≡ Stands stop
   stands_there = sym (ap (λ p. now p old.thread.number (thread_of old)) thread_is.program ∙ ap (λ n. now table.program.now n (thread_of old)) thread_is.which) ∙ stands ∙ ap Stands is_stop
@@ -164,15 +187,13 @@ module _ (table : Table) (t : ℕ) (old new : Player) (transcript : Listed ℕ) 
   names_there : NamesCell table.program.now stop
   names_there = subst (λ (s : Stop). NamesCell table.program.now s) is_stop (subst (λ (p : Listing). NamesCell p told) thread_is.program names)
 
-  went_at : WentOn table.program.now table.fuel t (word_in stop table.cells) old new table.transcript.items transcript.items
+  went_at : Went table.program.now table.fuel t (word_in stop table.cells) old.thread new.thread table.transcript.items transcript.items
   went_at =
-      subst (λ (n : ℕ). WentOn table.program.now table.fuel t n old new table.transcript.items transcript.items) is_word
-      (subst (λ (n : ℕ). WentOn table.program.now table.fuel n word old new table.transcript.items transcript.items) thread_is.which
-      (subst (λ (n : ℕ). WentOn table.program.now n old.thread.number word old new table.transcript.items transcript.items) thread_is.fuel_is
-      (subst (λ (q : Listing). WentOn q old.thread.fuel old.thread.number word old new table.transcript.items transcript.items) thread_is.program went)))
+      subst (λ (n : ℕ). Went table.program.now table.fuel t n old.thread new.thread table.transcript.items transcript.items) is_word
+      (went_by table.program.now table.fuel t word old.thread new.thread table.transcript.items transcript.items thread_is went)
 
   pub table_kept : IsTable table'
-  table_kept = still_table table t old new transcript stop is within went_at
+  table_kept = still_table by_stops table t old new transcript stop is within went_at
 
   pub turn_shown : may_in t stop table.holders ≡ true → (m : Machine) → Shows table m → (can table.program.now t m ≡ true) × Shows table' (turn table.program.now table.fuel t m)
-  turn_shown may m shows = turn_taken table t old new transcript stop m is within whose stands_there names_there may went_at shows
+  turn_shown may m shows = turn_taken by_stops table t old new transcript stop m is within whose stands_there names_there may went_at shows

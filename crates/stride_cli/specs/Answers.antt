@@ -1,8 +1,6 @@
 -- What the program answers to words and bytes: the exit status with its details, and the report.
 use Rattle.std.specs.Prelude.{◌≡◌, ℕ, List, [], length, take, drop, nat_lt, Option, Some, None, Result, Ok, Err, unwrap_or}
 use Rattle.std.specs.Bool.{MatchBool}
-use Rattle.stride_base.specs.Devices.{Adds, AddsFront}
-use Rattle.stride_base.specs.Listed.{Listed}
 use Rattle.stride_isa.specs.Faults.{Fault, IsVerdict}
 use Rattle.stride_isa.specs.Listing.{Listing}
 use Rattle.sc_machine.specs.Machine.{Machine}
@@ -14,44 +12,19 @@ use Rattle.assembler.specs.Canonical.{canonical}
 use Rattle.assembler.specs.Orders.{order_spelled}
 use Rattle.assembler.specs.Programs.{LineFault, spelled}
 use Rattle.assembler.specs.Splits.{split}
-use Rattle.stride_cli.specs.declared.command.Command.{Command}
-use Rattle.stride_cli.specs.declared.command.Command.TheVariants.{Check, Follow, Sim, Show}
+use Rattle.stride_cli.specs.declared.words.Command.{Command}
+use Rattle.stride_cli.specs.declared.words.Command.TheVariants.{Check, Follow, Sim, Show}
 use Rattle.stride_cli.specs.declared.status.Status.{Status}
-use Rattle.stride_cli.specs.declared.status.Status.TheVariants.{Done, Usage, ReadFault, TooLong, Program, Bundle, NotEnabled, WriteFault, NoMemory}
+use Rattle.stride_cli.specs.declared.status.Status.TheVariants.{Done, Usage, TooLong, Program, Bundle, NotEnabled}
 use Rattle.stride_cli.specs.declared.status.ProgramFault.TheVariants.{Text, Code}
-use Rattle.stride_cli.specs.declared.refusal.Refusal.{Refusal}
-use Rattle.stride_cli.specs.declared.refusal.Refusal.TheVariants as refusals
-use Rattle.stride_cli.specs.Commands.{command_named}
 use Rattle.stride_cli.specs.Reports.{follow_report, logs_section, show_report}
+use Rattle.stride_cli.specs.Settings.{fuel, patience, input_limit}
+use Rattle.stride_cli.specs.Words.{command_named}
 
 -- how a command ends, and what it puts
 pub record Answer : Type 0 where
   pub status : Status
   pub report : List ℕ
-
--- how many instructions each thread may make
-abbrev pub fuel : ℕ
-fuel = 100000
-
--- after how many odd looks in a row a thread gives up
-abbrev pub patience : ℕ
-patience = 100000
-
--- the most bytes of an input
-abbrev pub input_limit : ℕ
-input_limit = 268435456
-
--- the exit status
-abbrev pub code_of : Status → ℕ
-code_of Done = 0
-code_of Usage = 1
-code_of ReadFault = 2
-code_of TooLong = 3
-code_of (Program fault) = 4
-code_of (Bundle kind offset) = 5
-code_of (NotEnabled place) = 8
-code_of WriteFault = 9
-code_of NoMemory = 10
 
 -- a refusal, which has the empty report
 abbrev pub refused : Status → Answer
@@ -78,7 +51,7 @@ done report = record { status = Done; report = report }
 abbrev pub program_part : List ℕ → List ℕ
 program_part bytes = take (split bytes).program_end bytes
 
--- the bytes behind the line `order`
+-- the bytes after the line `order`
 abbrev pub order_part : List ℕ → List ℕ
 order_part bytes = drop (split bytes).order_start bytes
 
@@ -138,55 +111,3 @@ AnswersBy (Some command) bytes answer = MatchBool (nat_lt input_limit (length by
 -- the answer to the words and the bytes of the input
 abbrev pub IsAnswer : List (List ℕ) → List ℕ → Answer → Type 0
 IsAnswer words bytes answer = AnswersBy (command_named words) bytes answer
-
--- the report of the answer, and what became of it
-abbrev pub Reported : List (List ℕ) → List ℕ → (List ℕ → Type 0) → Type 0
-Reported words bytes Put = (report : List ℕ) × (IsAnswer words bytes (done report) × Put report)
-
--- what a status tells of the answer, where the sink told first these bytes and then those: the answer is this very status;
--- where it is done, its whole report was put, and where that failed, a front of the report. A fault of reading and want of
--- memory tell nothing
-abbrev pub Tells : List (List ℕ) → List ℕ → Option (List ℕ) → Option (List ℕ) → Status → Type 0
-Tells words bytes old new ReadFault = Unit {0}
-Tells words bytes old new NoMemory = Unit {0}
-Tells words bytes old new Done = Reported words bytes (Adds old new)
-Tells words bytes old new WriteFault = Reported words bytes (AddsFront old new)
-Tells words bytes old new status = IsAnswer words bytes (refused status)
-
--- a fact where the whole report was put
-abbrev pub OnDone : Status → Type 0 → Type 0
-OnDone Done fact = fact
-OnDone given fact = Unit {0}
-
--- a fact where the report could not be put whole
-abbrev pub OnWriteFault : Status → Type 0 → Type 0
-OnWriteFault WriteFault fact = fact
-OnWriteFault given fact = Unit {0}
-
--- a fact where the input could not be read
-abbrev pub OnReadFault : Status → Type 0 → Type 0
-OnReadFault ReadFault fact = fact
-OnReadFault given fact = Unit {0}
-
--- a fact where nothing was put: after each status but the two that come behind the report
-abbrev pub OnRefusal : Status → Type 0 → Type 0
-OnRefusal Done fact = Unit {0}
-OnRefusal WriteFault fact = Unit {0}
-OnRefusal given fact = fact
-
--- the status of a refusal of a command that has read its input
-abbrev pub status_of : Refusal → Status
-status_of (refusals.Program fault) = Program fault
-status_of (refusals.Bundle kind offset) = Bundle kind offset
-status_of (refusals.NotEnabled place) = NotEnabled place
-status_of refusals.NoMemory = NoMemory
-
--- the refusal is the command's answer; want of memory says nothing
-abbrev pub Refuses : Command → List ℕ → Refusal → Type 0
-Refuses command bytes refusals.NoMemory = Unit {0}
-Refuses command bytes refusal = AnswersInput command bytes (refused (status_of refusal))
-
--- what a command that has read its input comes to: the report of the answer, or its refusal
-abbrev pub Gives : Result (Listed ℕ) Refusal → Command → List ℕ → Type 0
-Gives (Ok report) command bytes = AnswersInput command bytes (done report.items)
-Gives (Err refusal) command bytes = Refuses command bytes refusal

@@ -1,7 +1,13 @@
-pub mod Accepting
 pub mod Answers
-pub mod Commands
+pub mod Gives
+pub mod Inputs
 pub mod Laws
-pub mod Playing
+pub mod Players
 pub mod Refusals
 pub mod Reports
+pub mod Schedules
+pub mod Settings
+pub mod Statuses
+pub mod Tables
+pub mod Telling
+pub mod Words

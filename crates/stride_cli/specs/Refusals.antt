@@ -1,4 +1,4 @@
--- How the refusals of the layers below are told.
+-- How the refusals of the layers below are told. Only private clauses cite this module.
 use Rattle.stride_isa.specs.declared.check_error.CheckError.{CheckError}
 use Rattle.stride_isa.specs.declared.check_error.CheckError.TheVariants as checks
 use Rattle.assembler.specs.declared.asm_error.AsmError.{AsmError}
@@ -7,11 +7,13 @@ use Rattle.interleavings.specs.declared.driven.DriveError.{DriveError}
 use Rattle.interleavings.specs.declared.driven.DriveError.TheVariants as drives
 use Rattle.log_format.specs.declared.format_error.FormatError.{FormatError}
 use Rattle.log_format.specs.declared.format_error.FormatError.TheVariants as formats
-use Rattle.stride_cli.specs.declared.playing.PlayError.{PlayError}
-use Rattle.stride_cli.specs.declared.playing.PlayError.TheVariants as plays
+use Rattle.stride_cli.specs.declared.playing.schedule.PlayError.{PlayError}
+use Rattle.stride_cli.specs.declared.playing.schedule.PlayError.TheVariants as plays
 use Rattle.stride_cli.specs.declared.refusal.Refusal.{Refusal}
 use Rattle.stride_cli.specs.declared.refusal.Refusal.TheVariants.{Program, Bundle, NotEnabled, NoMemory}
 use Rattle.stride_cli.specs.declared.status.ProgramFault.TheVariants.{Text, Code}
+use Rattle.stride_cli.specs.declared.status.Status.{Status}
+use Rattle.stride_cli.specs.declared.status.Status.TheVariants as statuses
 
 -- a refused text or order
 abbrev pub of_text : AsmError → Refusal
@@ -37,3 +39,10 @@ of_drive drives.NoMemory = NoMemory
 abbrev pub of_format : FormatError → Refusal
 of_format (formats.Bad kind offset) = Bundle kind offset
 of_format formats.NoMemory = NoMemory
+
+-- the status of a refusal of a command that has read its input
+abbrev pub status_of : Refusal → Status
+status_of (Program fault) = statuses.Program fault
+status_of (Bundle kind offset) = statuses.Bundle kind offset
+status_of (NotEnabled place) = statuses.NotEnabled place
+status_of NoMemory = statuses.NoMemory

@@ -1,30 +1,25 @@
 //! The commands of `stride`, from words and bytes to bytes and a status.
 //!
-//! Owns: the words of the command line (`Commands`), the reports (`Reports`), the answer to words and bytes (`Answers`),
-//! and, until there is a replayer, the table on which a schedule is played (`Playing`).
+//! Owns: the words of the command line (`Words`), the reports (`Reports`), the answer to words and bytes (`Answers`), what
+//! a status tells of it (`Telling`), and, until there is a replayer, the table on which a schedule is played (`playing`).
 //! The layer above is `main` alone. It may rely on the clauses of `offline`: the status and the report are those of the
 //! answer, of which there is one at most, a fault is answered only where the device's count rose, and a refusal leaves
 //! the sink as it was.
 #![tactic(auto)]
 
-mod accepting;
-mod checking;
-mod command;
 mod commands;
-mod following;
+mod input;
 mod laws;
-mod ordered;
-mod player;
+mod limits;
+mod messages;
+mod offline_call;
 mod playing;
 mod refusal;
-mod report;
+mod reports;
 mod settings;
-mod showing;
-mod simulating;
-mod starting;
 mod status;
-mod table;
+mod words;
 
-pub use commands::offline;
 pub use laws::one_answer;
+pub use offline_call::offline;
 pub use status::{ProgramFault, Status};

@@ -23,7 +23,7 @@ pub enum Refusal {
 }
 
 impl Refusal {
-    ghost use Rattle.stride_cli.specs.Answers.{status_of};
+    ghost use Rattle.stride_cli.specs.Refusals.{status_of};
 
     /// The status that tells of the refusal.
     pub fn into_status(self) -> Status

@@ -1,6 +1,8 @@
 //! How a command ends.
 ghost use Rattle.std.specs.Prelude.{◌≡◌};
 
+use crate::limits::INPUT_LIMIT;
+use crate::messages::{words_of_check, words_of_format, words_of_text};
 use assembler::AsmKind;
 use log_format::FormatKind;
 use std::fmt;
@@ -17,43 +19,12 @@ pub enum ProgramFault {
         line: u32,
     },
     /// The program is refused for its first fault: of this thread, at this position of its code, both counted from 0.
-    #[error("thread {thread}, instruction {instruction}: {words}", words = words_of_check(.kind))]
+    #[error("thread {thread}, instruction {instruction}, both counted from 0: {words}", words = words_of_check(.kind))]
     Code {
         kind: CheckKind,
         thread: u32,
         instruction: u32,
     },
-}
-
-fn words_of_text(kind: &AsmKind) -> &'static str {
-    match kind {
-        AsmKind::BadLine => "not a line that can stand here",
-        AsmKind::BadNumber => "not a number that can stand here",
-        AsmKind::UnknownName => "unknown name",
-        AsmKind::Twice => "name already in use",
-        AsmKind::TooMany => "one more than the limit",
-    }
-}
-
-fn words_of_check(kind: &CheckKind) -> &'static str {
-    match kind {
-        CheckKind::Underflow => "reached with too few words on the stack",
-        CheckKind::Overflow => "puts more than 64 words on the stack",
-        CheckKind::TwoDepths => "reached with two stack depths",
-        CheckKind::RunsOff => "the thread runs off the end of its code",
-        CheckKind::BadTarget => "jumps outside the thread's code",
-        CheckKind::BadName => "names nothing of the kind that it uses",
-    }
-}
-
-fn words_of_format(kind: &FormatKind) -> &'static str {
-    match kind {
-        FormatKind::Short => "the bundle ends too soon",
-        FormatKind::BadMagic => "not the beginning of a bundle",
-        FormatKind::BadTag => "not an entry of a log",
-        FormatKind::BadCount => "a number out of its range",
-        FormatKind::Long => "bytes behind the end of the bundle",
-    }
 }
 
 /// How a command ends. `code` gives the exit status of the process.
@@ -80,7 +51,7 @@ pub enum Status {
 }
 
 impl Status {
-    ghost use Rattle.stride_cli.specs.Answers.{code_of};
+    ghost use Rattle.stride_cli.specs.Statuses.{code_of};
 
     /// The exit status of the process.
     pub fn code(&self) -> u8
@@ -106,7 +77,7 @@ impl fmt::Display for Status {
             Status::Done => write!(f, "done"),
             Status::Usage => write!(f, "usage: stride check|follow|sim|show < INPUT"),
             Status::ReadFault => write!(f, "the input could not be read"),
-            Status::TooLong => write!(f, "the input has more than 268435456 bytes"),
+            Status::TooLong => write!(f, "the input has more than {INPUT_LIMIT} bytes"),
             Status::Program { fault } => write!(f, "{fault}"),
             Status::Bundle { kind, offset } => {
                 let words = words_of_format(kind);
@@ -115,7 +86,7 @@ impl fmt::Display for Status {
             Status::NotEnabled { place } => {
                 write!(
                     f,
-                    "place {place} of the order: that thread cannot take a turn"
+                    "member {place} of the order, counted from 0, names no thread, or one that cannot take its turn"
                 )
             }
             Status::WriteFault => write!(f, "the report could not be written"),

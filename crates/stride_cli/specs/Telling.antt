@@ -1,0 +1,41 @@
+-- What the status of a call tells of the answer.
+use Rattle.std.specs.Prelude.{ℕ, List, Option}
+use Rattle.stride_base.specs.Devices.{Adds, AddsFront}
+use Rattle.stride_cli.specs.declared.status.Status.{Status}
+use Rattle.stride_cli.specs.declared.status.Status.TheVariants.{Done, ReadFault, WriteFault, NoMemory}
+use Rattle.stride_cli.specs.Answers.{IsAnswer, done, refused}
+
+-- the report of the answer, and what became of it
+abbrev pub Reported : List (List ℕ) → List ℕ → (List ℕ → Type 0) → Type 0
+Reported words bytes Put = (report : List ℕ) × (IsAnswer words bytes (done report) × Put report)
+
+-- what a status tells of the answer, where the sink told first these bytes and then those: the answer is this very status;
+-- where it is done, its whole report was put, and where that failed, a prefix of the report. A fault of reading and want
+-- of memory tell nothing
+abbrev pub Tells : List (List ℕ) → List ℕ → Option (List ℕ) → Option (List ℕ) → Status → Type 0
+Tells words bytes old new ReadFault = Unit {0}
+Tells words bytes old new NoMemory = Unit {0}
+Tells words bytes old new Done = Reported words bytes (Adds old new)
+Tells words bytes old new WriteFault = Reported words bytes (AddsFront old new)
+Tells words bytes old new status = IsAnswer words bytes (refused status)
+
+-- a fact where the whole report was put
+abbrev pub OnDone : Status → Type 0 → Type 0
+OnDone Done fact = fact
+OnDone given fact = Unit {0}
+
+-- a fact where the report could not be put whole
+abbrev pub OnWriteFault : Status → Type 0 → Type 0
+OnWriteFault WriteFault fact = fact
+OnWriteFault given fact = Unit {0}
+
+-- a fact where the input could not be read
+abbrev pub OnReadFault : Status → Type 0 → Type 0
+OnReadFault ReadFault fact = fact
+OnReadFault given fact = Unit {0}
+
+-- a fact where nothing was put: after each status but the two that come after the report
+abbrev pub OnRefusal : Status → Type 0 → Type 0
+OnRefusal Done fact = Unit {0}
+OnRefusal WriteFault fact = Unit {0}
+OnRefusal given fact = fact

@@ -1,0 +1,20 @@
+//! `check`: a program in its canonical text.
+ghost use Rattle.std.specs.Prelude.{◌≤◌, length};
+ghost use Rattle.stride_cli.specs.Gives.{Gives};
+ghost use Rattle.stride_cli.specs.Settings.{input_limit};
+ghost use Rattle.stride_cli.specs.declared.words.Command.TheVariants.{Check};
+
+use crate::input::accept;
+use crate::refusal::Refusal;
+use assembler::print_program;
+use std::alloc::Global;
+use stride_base::List;
+
+/// The canonical text of the program that the bytes spell.
+pub fn check_text(alloc: Global, bytes: &[u8]) -> Result<List<u8>, Refusal>
+    requires { length bytes.now ≤ input_limit }
+    ensures { Gives result Check bytes.now }
+{
+    let program = accept(alloc, bytes)?;
+    Ok(print_program(alloc, &program)?)
+}

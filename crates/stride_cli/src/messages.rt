@@ -1,0 +1,43 @@
+//! The words of messages: what is wrong, for the user who can mend it.
+
+use assembler::AsmKind;
+use log_format::FormatKind;
+use stride_isa::CheckKind;
+
+/// What is wrong with a line of a text or of an order.
+pub fn words_of_text(kind: &AsmKind) -> &'static str {
+    match kind {
+        AsmKind::BadLine => "malformed or misplaced line",
+        AsmKind::BadNumber => "not a number of the range that is wanted here",
+        AsmKind::UnknownName => {
+            "names no variable, array, monitor or label of this thread, whichever is wanted here"
+        },
+        AsmKind::Twice => "name already in use",
+        AsmKind::TooMany => "one more than the limit",
+    }
+}
+
+/// What is wrong with an instruction.
+pub fn words_of_check(kind: &CheckKind) -> &'static str {
+    match kind {
+        CheckKind::Underflow => "reached with too few words on the stack",
+        CheckKind::Overflow => "puts more than 64 words on the stack",
+        CheckKind::TwoDepths => "reached with two stack depths",
+        CheckKind::RunsOff => "the thread runs off the end of its code",
+        CheckKind::BadTarget => "jumps outside the thread's code",
+        CheckKind::BadName => {
+            "names an array where a variable is wanted, or a variable where an array is wanted"
+        },
+    }
+}
+
+/// What is wrong with the bytes of a bundle.
+pub fn words_of_format(kind: &FormatKind) -> &'static str {
+    match kind {
+        FormatKind::Short => "the bundle ends too soon",
+        FormatKind::BadMagic => "not the beginning of a bundle",
+        FormatKind::BadTag => "not an entry of a log",
+        FormatKind::BadCount => "a number out of its range",
+        FormatKind::Long => "extra bytes after the bundle",
+    }
+}

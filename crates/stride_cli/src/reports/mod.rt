@@ -1,0 +1,10 @@
+//! The sections of reports: one file a subject. A section is appended line by line.
+
+mod counts;
+mod ends;
+mod line;
+mod logs;
+
+pub use counts::{put_counts, put_text};
+pub use ends::put_ends;
+pub use logs::put_logs;

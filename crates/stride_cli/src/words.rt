@@ -1,0 +1,38 @@
+//! The words of the command line.
+ghost use Rattle.std.specs.Prelude.{◌≡◌, map};
+ghost use Rattle.stride_cli.specs.Words.{command_named, command_with_name};
+
+/// What the program can be told to do.
+#[derive(Clone, Copy, Debug, PartialEq, Eq)]
+pub enum Command {
+    /// Checks a program, and prints its canonical text.
+    Check,
+    /// Plays a schedule on the sequentially consistent machine.
+    Follow,
+    /// Records a program by an order of atomic steps, on one thread.
+    Sim,
+    /// Shows what a bundle holds.
+    Show,
+}
+
+fn command_called(name: &str) -> Option<Command>
+    ensures { result ≡ command_with_name name.now }
+{
+    match name {
+        "check" => Some(Command::Check),
+        "follow" => Some(Command::Follow),
+        "sim" => Some(Command::Sim),
+        "show" => Some(Command::Show),
+        _ => None,
+    }
+}
+
+/// The command that the words name, or `None` where they name none.
+pub fn command_of(words: &[&str]) -> Option<Command>
+    ensures { result ≡ command_named (map (λ word. word.now) words.entry.now) }
+{
+    match words {
+        [name] => command_called(name),
+        _ => None,
+    }
+}
