@@ -5,7 +5,7 @@ use Rattle.stride_isa.specs.Laws.{OneVerdict}
 use Rattle.stride_isa.specs.Listing.{Listing}
 use Rattle.assembler.specs.Programs.{LineFault, spelled}
 use Rattle.stride_cli.specs.declared.words.Command.{Command}
-use Rattle.stride_cli.specs.declared.words.Command.TheVariants.{Check, Follow, Sim, Show}
+use Rattle.stride_cli.specs.declared.words.Command.TheVariants.{Check, Follow, Sim, Show, Upgrade}
 use Rattle.stride_cli.specs.Answers.{Answer, AnswersText, AnswersInput, AnswersBy, judged, program_part}
 use Rattle.stride_cli.specs.Laws.{OneAnswer}
 use Rattle.stride_cli.specs.Settings.{input_limit}
@@ -21,6 +21,7 @@ one_input one Check bytes answer other is same = one_text one (spelled bytes) _ 
 one_input one Follow bytes answer other is same = one_text one (spelled (program_part bytes)) _ answer other is same
 one_input one Sim bytes answer other is same = one_text one (spelled (program_part bytes)) _ answer other is same
 one_input one Show bytes answer other is same = is ∙ sym same
+one_input one Upgrade bytes answer other is same = is ∙ sym same
 
 by_length : OneVerdict → (too_long : Bool) (command : Command) (bytes : List ℕ) (refusal answer other : Answer) → MatchBool too_long (answer ≡ refusal) (AnswersInput command bytes answer) → MatchBool too_long (other ≡ refusal) (AnswersInput command bytes other) → answer ≡ other
 by_length one true command bytes refusal answer other is same = is ∙ sym same

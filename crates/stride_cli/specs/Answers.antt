@@ -5,7 +5,8 @@ use Rattle.stride_isa.specs.Faults.{Fault, IsVerdict}
 use Rattle.stride_isa.specs.Listing.{Listing}
 use Rattle.sc_machine.specs.Machine.{Machine}
 use Rattle.sc_machine.specs.Schedule.{refused_place, replayed}
-use Rattle.interleavings.specs.Recording.{Recording, Setting, driven, stranger}
+use Rattle.interleavings.specs.Driving.{driven, stranger}
+use Rattle.interleavings.specs.Recording.{Recording, Setting}
 use Rattle.log_format.specs.Bundles.{Bundled}
 use Rattle.log_format.specs.Reading.{reading, Refusal as FormatRefusal}
 use Rattle.assembler.specs.Canonical.{canonical}
@@ -13,7 +14,7 @@ use Rattle.assembler.specs.Orders.{order_spelled}
 use Rattle.assembler.specs.Programs.{LineFault, spelled}
 use Rattle.assembler.specs.Splits.{split}
 use Rattle.stride_cli.specs.declared.words.Command.{Command}
-use Rattle.stride_cli.specs.declared.words.Command.TheVariants.{Check, Follow, Sim, Show}
+use Rattle.stride_cli.specs.declared.words.Command.TheVariants.{Check, Follow, Sim, Show, Upgrade}
 use Rattle.stride_cli.specs.declared.status.Status.{Status}
 use Rattle.stride_cli.specs.declared.status.Status.TheVariants.{Done, Usage, TooLong, Program, Bundle, NotEnabled}
 use Rattle.stride_cli.specs.declared.status.ProgramFault.TheVariants.{Text, Code}
@@ -96,12 +97,18 @@ abbrev pub shown : Result Bundled FormatRefusal → Answer
 shown (Ok bundle) = done (show_report bundle)
 shown (Err refusal) = refused (Bundle refusal.kind refusal.offset)
 
+-- what `upgrade` answers to what the bytes read as: the same bundle in version 2
+abbrev pub upgraded : Result Bundled FormatRefusal → Answer
+upgraded (Ok bundle) = done (spelling bundle)
+upgraded (Err refusal) = refused (Bundle refusal.kind refusal.offset)
+
 -- the answer of a command to an input within the limit
 abbrev pub AnswersInput : Command → List ℕ → Answer → Type 0
 AnswersInput Check bytes answer = AnswersText (spelled bytes) (λ p. done (canonical p)) answer
 AnswersInput Follow bytes answer = AnswersText (spelled (program_part bytes)) (λ p. with_order (followed p) (order_of bytes)) answer
 AnswersInput Sim bytes answer = AnswersText (spelled (program_part bytes)) (λ p. with_order (simulated p) (order_of bytes)) answer
 AnswersInput Show bytes answer = answer ≡ shown (reading bytes)
+AnswersInput Upgrade bytes answer = answer ≡ upgraded (reading bytes)
 
 -- the answer of the command that the words name, if they name one, to an input of any length
 abbrev pub AnswersBy : Option Command → List ℕ → Answer → Type 0

@@ -1,7 +1,7 @@
 -- The sections of reports, each a function of one value.
 use Rattle.std.specs.Prelude.{ℕ, ◌+◌, List, [], ◌∷◌, ◌++◌, codes, decimal, length}
 use Rattle.interleavings.specs.declared.event.LogEntry.{LogEntry}
-use Rattle.interleavings.specs.declared.event.LogEntry.TheVariants.{Read, Write, Enter}
+use Rattle.interleavings.specs.declared.event.LogEntry.TheVariants.{Read, Write, Update, Enter}
 use Rattle.log_format.specs.Bundles.{Bundled}
 use Rattle.sc_machine.specs.declared.end.End.{End}
 use Rattle.sc_machine.specs.declared.end.End.TheVariants.{Halted, Trapped, OutOfSteps, Stopped}
@@ -45,8 +45,9 @@ follow_report m = transcript_section m.transcript ++ ends_section (ends m)
 
 -- the words for an entry of a log
 abbrev pub entry_words : LogEntry → List ℕ
-entry_words (Read value bound) = codes "read " ++ (decimal value ++ (32 ∷ decimal bound))
+entry_words (Read bound value) = codes "read " ++ (decimal value ++ (32 ∷ decimal bound))
 entry_words (Write number) = codes "write " ++ decimal number
+entry_words (Update number old) = codes "update " ++ (decimal old ++ (32 ∷ decimal number))
 entry_words (Enter turn) = codes "enter " ++ decimal turn
 
 -- a line for each entry of the thread's log

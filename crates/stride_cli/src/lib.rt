@@ -3,14 +3,13 @@
 //! Owns: the words of the command line (`Words`), the reports (`Reports`), the answer to words and bytes (`Answers`), what
 //! a status tells of it (`Telling`), and, until there is a replayer, the table on which a schedule is played (`playing`).
 //! The layer above is `main` alone. It may rely on the clauses of `offline`: the status and the report are those of the
-//! answer, of which there is one at most, a fault is answered only where the device's count rose, and a refusal leaves
+//! answer, of which there is one, a fault is answered only where the device's count rose, and a refusal leaves
 //! the sink as it was.
 #![tactic(auto)]
 
 mod commands;
 mod input;
 mod laws;
-mod limits;
 mod messages;
 mod offline_call;
 mod playing;
@@ -20,6 +19,6 @@ mod settings;
 mod status;
 mod words;
 
-pub use laws::one_answer;
+pub use laws::{an_answer, one_answer};
 pub use offline_call::offline;
 pub use status::{ProgramFault, Status};

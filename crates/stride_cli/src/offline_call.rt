@@ -5,11 +5,11 @@ ghost use Rattle.stride_cli.specs.Telling.{Tells, OnDone, OnReadFault, OnWriteFa
 ghost use Rattle.stride_cli.specs.Words.{command_named};
 
 use crate::commands::report_of;
-use crate::limits::INPUT_LIMIT;
 use crate::status::Status;
 use crate::words::command_of;
 use std::alloc::Global;
 use std::sync::ledger::Ledger;
+use stride_base::limits::INPUT_LIMIT;
 use stride_base::{Failed, InputError, Sink, Source, Steps, put_all, read_all};
 
 /// Does the command that the words name (the program's name is none of them): reads the whole input, and puts the

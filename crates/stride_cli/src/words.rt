@@ -13,6 +13,8 @@ pub enum Command {
     Sim,
     /// Shows what a bundle holds.
     Show,
+    /// Spells a bundle of either version in version 2.
+    Upgrade,
 }
 
 fn command_called(name: &str) -> Option<Command>
@@ -23,6 +25,7 @@ fn command_called(name: &str) -> Option<Command>
         "follow" => Some(Command::Follow),
         "sim" => Some(Command::Sim),
         "show" => Some(Command::Show),
+        "upgrade" => Some(Command::Upgrade),
         _ => None,
     }
 }

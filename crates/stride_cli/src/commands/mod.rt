@@ -7,6 +7,7 @@ mod check;
 mod follow;
 mod show;
 mod sim;
+mod upgrade;
 
 use crate::refusal::Refusal;
 use crate::words::Command;
@@ -14,6 +15,7 @@ use check::check_text;
 use follow::follow_schedule;
 use show::show_bundle;
 use sim::simulate;
+use upgrade::upgrade_bundle;
 use std::alloc::Global;
 use stride_base::List;
 
@@ -27,5 +29,6 @@ pub fn report_of(alloc: Global, command: Command, bytes: &[u8]) -> Result<List<u
         Command::Follow => follow_schedule(alloc, bytes),
         Command::Sim => simulate(alloc, bytes),
         Command::Show => show_bundle(alloc, bytes),
+        Command::Upgrade => upgrade_bundle(alloc, bytes),
     }
 }

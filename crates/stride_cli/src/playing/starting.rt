@@ -7,8 +7,8 @@ ghost use Rattle.sc_machine.specs.Schedule.{settled_lines};
 ghost use Rattle.sc_machine.specs.Transcript.{transcript_bytes};
 ghost use Rattle.stride_cli.specs.Players.{ArePlayers};
 
-use crate::limits::CELL_LIMIT;
 use crate::playing::player::Player;
+use crate::playing::table::CELL_ROOM;
 use std::alloc::Global;
 use stride_base::{List, NoMemory};
 use stride_isa::Checked;
@@ -35,11 +35,11 @@ pub fn start_players<'p>(
 }
 
 /// The starting value of each cell of the program; 0 after them.
-pub fn starting_cells(program: &Checked) -> [u64; CELL_LIMIT]
+pub fn starting_cells(program: &Checked) -> [u64; CELL_ROOM]
     ensures starts { (cell : ℕ) → cell < cell_count program.now.decls → slice_index result cell ≡ start_of program.now cell }
     ensures room { cell_count program.now.decls ≤ length result }
 {
-    let mut cells = [0; CELL_LIMIT];
+    let mut cells = [0; CELL_ROOM];
     for cell in 0..program.cells() {
         cells[cell as usize] = program.start_of(cell);
     }

@@ -2,13 +2,16 @@
 ghost use Rattle.std.specs.Prelude.{◌≡◌, ◌<◌, ◌≤◌, IfOk, length};
 ghost use Rattle.sc_machine.specs.Machine.{is_free_for as free_for};
 
-use crate::limits::{CELL_LIMIT, MONITOR_LIMIT};
 use crate::playing::player::Player;
 use crate::playing::starting::{start_players, starting_cells};
 use sc_machine::Stop;
 use std::alloc::Global;
 use stride_base::{List, NoMemory};
 use stride_isa::Checked;
+use stride_isa::limits::{CELL_LIMIT, MONITOR_LIMIT};
+
+/// How many cells there is room for: as many as any program has.
+pub const CELL_ROOM: usize = CELL_LIMIT as usize;
 
 /// The players of a program's threads, the value of each cell, the thread that holds each monitor, and the transcript so
 /// far.
@@ -17,7 +20,7 @@ pub struct Table<'p> {
     pub program: &'p Checked,
     pub fuel: u32,
     pub players: Vec<Player<'p>>,
-    pub cells: [u64; CELL_LIMIT],
+    pub cells: [u64; CELL_ROOM],
     pub holders: [Option<u8>; MONITOR_LIMIT],
     pub transcript: List<u8>,
 }
@@ -61,6 +64,11 @@ impl<'p> Table<'p> {
                 self.cells[cell as usize] = value;
                 player.answer(None, &mut self.transcript)?;
             }
+            Stop::Update { cell, change } => {
+                let old = self.cells[cell as usize];
+                self.cells[cell as usize] = change.applied(old);
+                player.answer(Some(old), &mut self.transcript)?;
+            }
             Stop::Enter { mon } => {
                 if !is_free_for(thread, self.holders[mon as usize]) {
                     return Ok(false);
@@ -72,7 +80,7 @@ impl<'p> Table<'p> {
                 self.holders[mon as usize] = None;
                 player.answer(None, &mut self.transcript)?;
             }
-            Stop::Ended { end: _ } => return Ok(false),
+            Stop::Ended { .. } => return Ok(false),
         }
         Ok(true)
     }

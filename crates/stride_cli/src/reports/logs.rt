@@ -13,7 +13,7 @@ fn put_entry(line: &mut Line, entry: LogEntry)
     ensures short { length line.new ≤ length line.old + 48 }
 {
     match entry {
-        LogEntry::Read { value, bound } => {
+        LogEntry::Read { bound, value } => {
             line.put_number(u64::from(bound));
             line.put(b" ");
             line.put_number(value);
@@ -22,6 +22,12 @@ fn put_entry(line: &mut Line, entry: LogEntry)
         LogEntry::Write { number } => {
             line.put_number(u64::from(number));
             line.put(b"write ");
+        }
+        LogEntry::Update { number, old } => {
+            line.put_number(u64::from(number));
+            line.put(b" ");
+            line.put_number(old);
+            line.put(b"update ");
         }
         LogEntry::Enter { turn } => {
             line.put_number(u64::from(turn));
