@@ -46,7 +46,6 @@ all_known threads [] none k lt = absurd (omega arith)
 all_known threads (t ∷ ts) none zero lt = (known_first (nat_le threads t) threads t (stranger threads ts) refl none).0
 all_known threads (t ∷ ts) none (suc k) lt = all_known threads ts (known_first (nat_le threads t) threads t (stranger threads ts) refl none).1 k (omega arith)
 
-
 -- one member more that is known
 pub stranger_more : (threads : ℕ) (order : List ℕ) (t : ℕ) → stranger threads order ≡ None → t < threads → stranger threads (order ++ t ∷ []) ≡ None
 unfolding stranger

@@ -90,7 +90,7 @@ pub record Followed : Type 0 where
   pub events : List Event
   pub thread : Thread
 
--- one more event at the front
+-- one more event before the others
 abbrev pub event_before : Event → Result Followed ℕ → Result Followed ℕ
 event_before event (Ok rest) = Ok (record rest { events = event ∷ rest.events })
 event_before event (Err place) = Err place

@@ -3,6 +3,7 @@ use Rattle.std.specs.Prelude.{ℕ, ◌<◌, ◌≤◌, List, [], ◌∷◌, ◌+
 use Rattle.std.specs.List.{AllByRecursion, slice_index_or}
 use Rattle.std.specs.Prelude.{slice_set}
 use Rattle.stride_isa.specs.Listing.{Listing, starts_of}
+use Rattle.interleavings.specs.declared.limits.TheConstants.{FUEL_LIMIT}
 use Rattle.interleavings.specs.declared.event.Event.{Event}
 use Rattle.interleavings.specs.declared.event.Event.TheVariants.{Read, Write, Update, Enter, Exit}
 
@@ -38,5 +39,5 @@ pub record IsTraces (traces : TraceLists) : Type 0 where
   pub threads : length traces.events ≤ 16
   pub cells : length traces.starts ≤ 256
   pub monitors : traces.monitors ≤ 64
-  pub counts : AllByRecursion (λ events. length events ≤ 1000000) traces.events
+  pub counts : AllByRecursion (λ events. length events ≤ FUEL_LIMIT) traces.events
   pub ranges : AllByRecursion (λ events. AllByRecursion (IsInRange traces) events) traces.events

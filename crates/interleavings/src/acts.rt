@@ -10,13 +10,26 @@ pub enum Phase {
     /// It has begun none.
     Idle,
     /// Of a read: it has loaded this value of the cell.
-    Loaded { cell: u32, value: u64 },
+    Loaded {
+        cell: u32,
+        value: u64,
+    },
     /// Of a write or an update: it has seen the number even, twice `n`.
-    Numbered { cell: u32, n: u32 },
+    Numbered {
+        cell: u32,
+        n: u32,
+    },
     /// Of a write or an update: it has claimed write `n + 1` by making the number odd.
-    Marked { cell: u32, n: u32 },
+    Marked {
+        cell: u32,
+        n: u32,
+    },
     /// Of an update: it has claimed, and has loaded the old value.
-    Fetched { cell: u32, n: u32, old: u64 },
+    Fetched {
+        cell: u32,
+        n: u32,
+        old: u64,
+    },
     /// Of a write or an update: it has stored the value; an update keeps the old one.
     Stored {
         cell: u32,
@@ -25,7 +38,10 @@ pub enum Phase {
         value: u64,
     },
     /// Of an entry: it has seen the monitor free after so many turns.
-    Looked { mon: u32, turn: u32 },
+    Looked {
+        mon: u32,
+        turn: u32,
+    },
 }
 
 /// A monitor that a thread holds, and for which turn.

@@ -6,9 +6,17 @@ ghost use Rattle.interleavings.specs.Events.{entry_of as entry, word_in};
 #[derive(Clone, Copy, Debug, PartialEq, Eq)]
 pub enum Event {
     /// A read of a cell: the value, and the bound, half of the first even number that was loaded after the value.
-    Read { cell: u32, value: u64, bound: u32 },
+    Read {
+        cell: u32,
+        value: u64,
+        bound: u32,
+    },
     /// A write of a value into a cell, and its number among the writes and updates of the cell, from 1.
-    Write { cell: u32, value: u64, number: u32 },
+    Write {
+        cell: u32,
+        value: u64,
+        number: u32,
+    },
     /// An atomic update of a cell: the value that it met, the value that it stored, and its number among the writes and
     /// updates of the cell, from 1.
     Update {
@@ -18,9 +26,15 @@ pub enum Event {
         number: u32,
     },
     /// An entry into a monitor, by which the thread holds it for this turn, from 1.
-    Enter { mon: u32, turn: u32 },
+    Enter {
+        mon: u32,
+        turn: u32,
+    },
     /// An exit from a monitor, by which this turn ends.
-    Exit { mon: u32, turn: u32 },
+    Exit {
+        mon: u32,
+        turn: u32,
+    },
 }
 
 impl Event {

@@ -14,6 +14,7 @@ use crate::acts::{Acts, Phase};
 use crate::core_state::Core;
 use crate::kind::Kind;
 use crate::layout::Layout;
+use crate::limits::FUEL_LIMIT;
 use crate::simulation::Simulation;
 use crate::step_words::AtomicStep;
 use sc_machine::StandingThread;
@@ -94,7 +95,7 @@ fn start_threads<'p>(
     fuel: u32,
 ) -> Result<Vec<StandingThread<'p>>, NoMemory>
     requires some { 1 ≤ fuel }
-    requires limit { fuel ≤ 1000000 }
+    requires limit { fuel ≤ FUEL_LIMIT }
     ensures { IfOk result (λ threads. threads.items ≡ map (started_at program.now fuel) (range_with_len 0 (length program.now.threads))) }
 {
     let mut threads = Vec::new(alloc);
@@ -113,7 +114,7 @@ pub fn start_simulation<'p>(
     patience: u32,
 ) -> Result<Simulation<'p>, NoMemory>
     requires some { 1 ≤ fuel }
-    requires limit { fuel ≤ 1000000 }
+    requires limit { fuel ≤ FUEL_LIMIT }
     ensures { IfOk result (λ sim. Shows (record { program = program.now; fuel = fuel; patience = patience }) sim (begun (record { program = program.now; fuel = fuel; patience = patience }))) }
 {
     let mut core = start_core(alloc, program)?;

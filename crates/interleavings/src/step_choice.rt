@@ -31,22 +31,24 @@ fn write_kind(phase: Phase) -> Kind
 {
     match phase {
         Phase::Numbered { .. } => Kind::Claim,
-        Phase::Marked { .. } => Kind::Put,
-        Phase::Fetched { .. } => Kind::Put,
+        Phase::Marked { .. } | Phase::Fetched { .. } => Kind::Put,
         Phase::Stored { .. } => Kind::Complete,
         Phase::Idle | Phase::Loaded { .. } | Phase::Looked { .. } => Kind::SeeNumber,
     }
 }
 
+// An update loads the old value after its claim, and is otherwise a write.
 fn update_kind(phase: Phase) -> Kind
     ensures { result ≡ kind_of_update phase }
 {
     match phase {
-        Phase::Numbered { .. } => Kind::Claim,
         Phase::Marked { .. } => Kind::Fetch,
-        Phase::Fetched { .. } => Kind::Put,
-        Phase::Stored { .. } => Kind::Complete,
-        Phase::Idle | Phase::Loaded { .. } | Phase::Looked { .. } => Kind::SeeNumber,
+        Phase::Idle
+        | Phase::Loaded { .. }
+        | Phase::Numbered { .. }
+        | Phase::Fetched { .. }
+        | Phase::Stored { .. }
+        | Phase::Looked { .. } => write_kind(phase),
     }
 }
 
@@ -83,11 +85,8 @@ fn at_of(stop: Stop) -> u32
     ensures { result ≡ place_at stop }
 {
     match stop {
-        Stop::Read { cell } => cell,
-        Stop::Write { cell, .. } => cell,
-        Stop::Update { cell, .. } => cell,
-        Stop::Enter { mon } => mon,
-        Stop::Exit { mon } => mon,
+        Stop::Read { cell } | Stop::Write { cell, .. } | Stop::Update { cell, .. } => cell,
+        Stop::Enter { mon } | Stop::Exit { mon } => mon,
         Stop::Ended { .. } => 0,
     }
 }

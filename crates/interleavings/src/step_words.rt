@@ -132,11 +132,11 @@ fn completed(phase: Phase) -> Option<Event>
             cell,
             n,
             old: Some(old),
-            value,
+            value: new,
         } => Some(Event::Update {
             cell,
             old,
-            new: value,
+            new,
             number: n + 1,
         }),
         Phase::Idle

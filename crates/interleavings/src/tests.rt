@@ -10,6 +10,10 @@ const READS: [Op; 3] = [Op::Read(0), Op::Print, Op::Halt];
 
 const WRITES: [Op; 3] = [Op::Push(7), Op::Write(0), Op::Halt];
 
+const ADDS: [Op; 4] = [Op::Push(5), Op::AddTo(0), Op::Print, Op::Halt];
+
+const EXCHANGES: [Op; 4] = [Op::Push(7), Op::Xchg(0), Op::Print, Op::Halt];
+
 const WRITES_TWICE: [Op; 5] = [
     Op::Push(5),
     Op::Write(0),
@@ -123,17 +127,17 @@ fn orders_give_recordings(rt: HostRuntime) -> Result<(), Fail> {
         // The number is odd once.
         Row {
             threads: [&READS, &WRITES],
-            order: &[1, 1, 1, 1, 0, 0, 1, 0, 1],
+            order: &[1, 1, 1, 0, 0, 1, 0],
             logs: [
                 &[LogEntry::Read { value: 7, bound: 1 }],
                 &[LogEntry::Write { number: 1 }],
             ],
             ends: [End::Halted, End::Halted],
         },
-        // The writer finishes behind the order, and then the reader.
+        // The writer finishes after the order, and then the reader.
         Row {
             threads: [&READS, &WRITES],
-            order: &[1, 1, 1, 1, 0],
+            order: &[1, 1, 1, 0],
             logs: [
                 &[LogEntry::Read { value: 7, bound: 1 }],
                 &[LogEntry::Write { number: 1 }],
@@ -148,6 +152,32 @@ fn orders_give_recordings(rt: HostRuntime) -> Result<(), Fail> {
                 &[LogEntry::Write { number: 1 }, LogEntry::Write { number: 2 }],
             ],
             ends: [End::Halted, End::Halted],
+        },
+        Row {
+            threads: [&ADDS, &EXCHANGES],
+            order: &[0, 0, 0, 0, 0, 1, 1, 1, 1, 1],
+            logs: [
+                &[LogEntry::Update { number: 1, old: 0 }],
+                &[LogEntry::Update { number: 2, old: 5 }],
+            ],
+            ends: [End::Halted, End::Halted],
+        },
+        // The number is odd when the first thread sees it.
+        Row {
+            threads: [&ADDS, &EXCHANGES],
+            order: &[1, 1, 1, 0, 0],
+            logs: [&[], &[LogEntry::Update { number: 1, old: 0 }]],
+            ends: [End::Stopped { pc: 1 }, End::Halted],
+        },
+        // A claim is lost, and made again.
+        Row {
+            threads: [&WRITES, &WRITES_TWICE],
+            order: &[0, 1, 1, 0, 1, 1, 0, 0, 0, 0],
+            logs: [
+                &[LogEntry::Write { number: 2 }],
+                &[LogEntry::Write { number: 1 }],
+            ],
+            ends: [End::Halted, End::Stopped { pc: 3 }],
         },
         Row {
             threads: [&READS, &WRITES],
@@ -190,7 +220,7 @@ fn threads_give_up_at_monitors(rt: HostRuntime) -> Result<(), Fail> {
                 End::Stopped { pc: 0 },
             ],
         },
-        // Exits are made behind the order.
+        // Exits are made after the order.
         Row {
             threads: [&ENTERS_A_THEN_B, &ENTERS],
             order: &[0, 0, 0, 0, 1],
@@ -211,7 +241,7 @@ fn threads_give_up_at_monitors(rt: HostRuntime) -> Result<(), Fail> {
 
 #[test]
 fn outputs_and_last_values_are_kept(rt: HostRuntime) -> Result<(), Fail> {
-    let driven = recording(rt.alloc(), [&READS, &WRITES], &[1, 1, 1, 1, 0])??;
+    let driven = recording(rt.alloc(), [&READS, &WRITES], &[1, 1, 1, 0])??;
     assert_eq!(rt; driven.outputs.len(), 2);
     assert!(rt; driven.outputs.get(0).as_slice() == b"7\n".as_slice());
     assert!(rt; driven.outputs.get(1).as_slice() == b"".as_slice());

@@ -1,4 +1,5 @@
-//! What no clause says of traces: that they are made and grow with ample memory, and are seen at a ledger.
+//! What no clause says of traces: that they are made and grow with ample memory, are seen at a ledger, and may be shared by
+//! threads and moved to them.
 ghost use Rattle.std.specs.Prelude.{◌≡◌, ◌<◌, IfSome, IfOk, length};
 ghost use Rattle.stride_isa.specs.declared.decl.Shape.TheVariants.{Single};
 
@@ -51,6 +52,17 @@ fn second_event_by<L: Ledger, R: Threads + Wait + Sync>(
 
 fn second_event<R: Threads + Wait + Sync>(rt: &R, traces: &Traces) -> Result<Event, Fail> {
     second_event_by::<Brand, R>(rt, traces, Blank::new(1))
+}
+
+// Compiles only for what threads may share and take over.
+fn crosses_threads<T: Send + Sync>(_value: &T) {}
+
+#[test]
+fn traces_cross_threads(rt: HostRuntime) -> Result<(), Fail> {
+    let program = one_thread(rt.alloc())?;
+    let traces = Traces::new(rt.alloc(), &program)?;
+    crosses_threads(&traces);
+    Ok(())
 }
 
 #[test]

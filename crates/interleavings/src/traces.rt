@@ -5,6 +5,7 @@ ghost use Rattle.stride_isa.specs.Listing.{starts_of};
 ghost use Rattle.interleavings.specs.TraceLists.{IsInRange, events_of, no_events as none, with_event_of};
 
 use crate::event::Event;
+use crate::limits::FUEL_LIMIT;
 use std::alloc::Global;
 use std::marker::Model;
 use std::sync::ledger::Ledger;
@@ -86,7 +87,7 @@ impl Traces {
     pub fn push(&mut self, thread: u32, event: Event) -> Result<(), NoMemory>
         requires thread { thread < length self.old.events }
         requires range { IsInRange self.old event }
-        requires few { length (events_of self.old thread) < 1000000 }
+        requires few { length (events_of self.old thread) < FUEL_LIMIT }
         ensures ok { OnOk result (self.new ≡ with_event_of self.old thread event) }
         ensures err { OnErr result (self.new ≡ self.old) }
     {
@@ -129,7 +130,7 @@ impl Traces {
     pub fn count(&self, thread: u32) -> u32
         requires { thread < length self.now.events }
         ensures count { result ≡ length (events_of self.now thread) }
-        ensures small { result ≤ 1000000 }
+        ensures small { result ≤ FUEL_LIMIT }
     {
         self.events[thread as usize].len() as u32
     }
