@@ -1,10 +1,10 @@
 pub mod BigNumbers
-pub mod Cuts
-pub mod Entries
-pub mod Fields
+pub mod BundleLaws
+pub mod Bytes
+pub mod EntryReaders
+pub mod Groups
 pub mod Loops
-pub mod Places
-pub mod Ranges
-pub mod RoundTrip
-pub mod Threads
+pub mod NumberReaders
+pub mod Readers
+pub mod Wide
 pub mod Written

@@ -1,5 +1,5 @@
 -- What the results of reading say, seen beside what the bytes read as.
-use Rattle.std.specs.Prelude.{◌≡◌, ℕ, ◌-◌, Result, Ok, Err}
+use Rattle.std.specs.Prelude.{◌≡◌, ◌≤◌, ℕ, ◌-◌, Result, Ok, Err}
 use Rattle.log_format.specs.Bundles.{Bundled, bundled}
 use Rattle.log_format.specs.Reading.{Refusal}
 use Rattle.log_format.specs.declared.bundle.Bundle.{Bundle}
@@ -18,6 +18,11 @@ Fails inside.NoMemory read = Unit {0}
 abbrev pub Gives : {X Y : Type 0} → (X → Y) → Result X ReadError → Result Y Fault → Type 0
 Gives view (Ok x) read = read ≡ Ok (view x)
 Gives view (Err error) read = Fails error read
+
+-- no more bytes are left at the fault than an input of this length has
+abbrev pub IsInside : ℕ → ReadError → Type 0
+IsInside size (inside.Fault wrong) = wrong.left ≤ size
+IsInside size inside.NoMemory = Unit {0}
 
 -- the error as it is told of an input of this length
 abbrev pub told : ℕ → ReadError → FormatError

@@ -1,10 +1,12 @@
--- What contracts see of a bundle, and which bundles the format can spell.
+-- What contracts see of a bundle, and which bundles a version of the format can hold.
 use Rattle.std.specs.Prelude.{ℕ, ◌<◌, ◌≤◌, ◌^◌, List, length, get_or, map}
 use Rattle.std.specs.List.{AllByRecursion}
 use Rattle.interleavings.specs.declared.event.LogEntry.{LogEntry}
-use Rattle.interleavings.specs.declared.event.LogEntry.TheVariants.{Read, Write, Enter}
+use Rattle.interleavings.specs.declared.event.LogEntry.TheVariants.{Read, Write, Update, Enter}
 use Rattle.stride_base.specs.Listed.{Listed}
 use Rattle.log_format.specs.declared.bundle.Bundle.{Bundle}
+use Rattle.log_format.specs.declared.version.Version.{Version}
+use Rattle.log_format.specs.declared.version.Version.TheVariants.{One, Two}
 
 -- a bundle without where it lies in memory
 pub record Bundled : Type 0 where
@@ -29,18 +31,24 @@ pub record IsWithin (bundle : Bundled) : Type 0 where
   pub threads : length bundle.logs ≤ 16
   pub counts : AllByRecursion (λ log. length log ≤ bundle.fuel) bundle.logs
 
--- each number of the entry is one of its type, which holds of every entry of a program
-abbrev pub FitsItsType : LogEntry → Type 0
-FitsItsType (Read value bound) = (value < 2 ^ 64) × (bound < 2 ^ 32)
-FitsItsType (Write number) = number < 2 ^ 32
-FitsItsType (Enter turn) = turn < 2 ^ 32
+-- there are updates from version 2 on
+abbrev pub HasUpdates : Version → Type 0
+HasUpdates One = ⊥
+HasUpdates Two = Unit {0}
+
+-- an entry that the version can hold: each number is one of its type, which holds of every entry of a program
+abbrev pub IsEntryOf : Version → LogEntry → Type 0
+IsEntryOf version (Read bound value) = (bound < 2 ^ 32) × (value < 2 ^ 64)
+IsEntryOf version (Write number) = number < 2 ^ 32
+IsEntryOf version (Update number old) = HasUpdates version × (number < 2 ^ 32) × (old < 2 ^ 64)
+IsEntryOf version (Enter turn) = turn < 2 ^ 32
 
 -- each number of the list is a byte
 abbrev pub IsBytes : List ℕ → Type 0
 IsBytes bytes = (i : ℕ) → get_or bytes i 0 < 256
 
--- a bundle that the format can spell
-pub record IsInRange (bundle : Bundled) : Type 0 where
+-- a bundle that the version can hold
+pub record IsInRange (version : Version) (bundle : Bundled) : Type 0 where
   pub within : IsWithin bundle
   pub bytes : IsBytes bundle.text
-  pub entries : AllByRecursion (AllByRecursion FitsItsType) bundle.logs
+  pub entries : AllByRecursion (AllByRecursion (IsEntryOf version)) bundle.logs

@@ -18,7 +18,8 @@ pub(crate) enum ReadError {
 
 impl ReadError {
     ghost use Rattle.std.specs.Prelude.{◌≡◌};
-    ghost use Rattle.log_format.specs.Answers.{told};
+    ghost use Rattle.log_format.specs.Answers.{told, IsInside};
+    ghost use Rattle.log_format.specs.Reading.{fault};
 
     /// The bytes end within a part.
     pub(crate) const SHORT: ReadError = ReadError::Fault(Fault {
@@ -26,14 +27,25 @@ impl ReadError {
         left: 0,
     });
 
+    /// The first of these bytes is at fault, or the number that begins with it.
+    pub(crate) const fn at(kind: FormatKind, bytes: &[u8]) -> ReadError
+        ensures { result ≡ ReadError.Fault (fault kind bytes.now) }
+    {
+        ReadError::Fault(Fault {
+            kind,
+            left: bytes.len(),
+        })
+    }
+
     /// The error as it is told of an input of this length.
     pub(crate) fn told(self, length: usize) -> FormatError
+        requires { IsInside length self }
         ensures { result ≡ told length self }
     {
         match self {
             ReadError::Fault(fault) => FormatError::Bad {
                 kind: fault.kind,
-                offset: length.saturating_sub(fault.left) as u64,
+                offset: (length - fault.left) as u64,
             },
             ReadError::NoMemory => FormatError::NoMemory,
         }

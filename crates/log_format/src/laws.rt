@@ -1,12 +1,12 @@
 //! What holds of the definitions of bundles together, each law as the contract of a function that does nothing.
-ghost use Rattle.log_format.specs.Laws.{SpellingIsRead, ReadIsSpelled, NoSpellingBeginsAnother, CutIsShort, MoreIsLong, NothingWrongBefore};
+ghost use Rattle.log_format.specs.Laws.{SpellingIsRead, ReadIsSpelled, NoSpellingBeginsAnother, CutIsShort, MoreIsLong, NothingWrongBefore, WrongStaysWrong, ShortIsBegun};
 
-/// The spelling of a bundle reads as this bundle.
+/// Each spelling of a bundle reads as this bundle.
 pub fn spelling_is_read()
     ensures { SpellingIsRead }
 {}
 
-/// Bytes that read as a bundle are the one spelling of it.
+/// Bytes that read as a bundle are its spelling in one of the versions.
 pub fn read_is_spelled()
     ensures { ReadIsSpelled }
 {}
@@ -21,7 +21,7 @@ pub fn cut_is_short()
     ensures { CutIsShort }
 {}
 
-/// A spelling with more bytes behind it is too long, at its own length.
+/// A spelling with more bytes after it is too long, at its own length.
 pub fn more_is_long()
     ensures { MoreIsLong }
 {}
@@ -29,4 +29,14 @@ pub fn more_is_long()
 /// Bytes that are refused for a wrong byte or number are, up to the offset that is told, only short of a bundle.
 pub fn nothing_wrong_before()
     ensures { NothingWrongBefore }
+{}
+
+/// Bytes that are refused for a wrong byte or number are refused so whatever follows them.
+pub fn wrong_stays_wrong()
+    ensures { WrongStaysWrong }
+{}
+
+/// Short bytes are so at their length: a spelling was begun, but for the range of a number in which they may end.
+pub fn short_is_begun()
+    ensures { ShortIsBegun }
 {}

@@ -1,7 +1,7 @@
 //! Bundles as bytes.
 //!
-//! Owns: what a bundle is seen as and which bundles can be spelled (`Bundles`), the one spelling of each (`Spelling`),
-//! what bytes read as, with the first refusal (`Reading`), and the laws of both (`Laws`).
+//! Owns: what a bundle is seen as and which bundles a version can hold (`Bundles`), the one spelling of each in each version
+//! (`Spelling`), what bytes read as, with the first refusal (`Reading`), and the laws of both (`Laws`).
 //! The layer above may rely on this: `decode` gives the bundle that the bytes spell, or the first refusal, and `encode`
 //! gives the spelling.
 #![tactic(auto)]
@@ -9,12 +9,14 @@
 mod bundle;
 mod decoding;
 mod encoding;
+mod entries;
 mod fault;
 mod format_error;
 mod laws;
 mod logs;
 mod numbers;
 mod parts;
+mod version;
 
 pub use bundle::Bundle;
 pub use decoding::decode;
@@ -22,7 +24,7 @@ pub use encoding::encode;
 pub use format_error::{FormatError, FormatKind};
 pub use laws::{
     cut_is_short, more_is_long, no_spelling_begins_another, nothing_wrong_before, read_is_spelled,
-    spelling_is_read,
+    short_is_begun, spelling_is_read, wrong_stays_wrong,
 };
 
 #[cfg(test)]

@@ -1,88 +1,138 @@
 //! The numbers of a bundle, from the front of the bytes.
-ghost use Rattle.std.specs.Prelude.{◌≡◌};
-ghost use Rattle.std.specs.Int.{w16, w32, w64};
+ghost use Rattle.std.specs.Prelude.{◌≡◌, ◌≤◌, IfOk};
 ghost use Rattle.log_format.specs.Answers.{Gives};
-ghost use Rattle.log_format.specs.Reading.{number_at, number_up_to, fuel_at};
+ghost use Rattle.log_format.specs.Reading.{fault, fuel_at, groups_at, grouped_at, number_at, number_up_to, wide_at};
+ghost use Rattle.log_format.specs.Spelling.{greatest};
 
 use crate::fault::{Fault, ReadError};
 use crate::format_error::FormatKind;
+use crate::version::{Size, Version};
 use byteorder::{BigEndian, ByteOrder};
 
-#[tactic(auto, using(crate::proofs::BigNumbers::big_numbers))]
-fn u16_at(bytes: &[u8]) -> Result<(u16, &[u8]), ReadError>
-    ensures { Gives (λ x. (x.0, x.1.now)) result (number_at w16 bytes.now) }
+#[tactic(auto, unfolding(crate::specs::Reading::wide_at), using(crate::proofs::BigNumbers::big_number_of))]
+fn wide_at(size: Size, bytes: &[u8]) -> Result<(u64, &[u8]), ReadError>
+    ensures { Gives (λ x. (x.0, x.1.now)) result (wide_at size bytes.now) }
 {
-    if bytes.len() < 2 {
+    let width = size.width();
+    if bytes.len() < width {
         return Err(ReadError::SHORT);
     }
-    let (front, rest) = bytes.split_at(2);
-    Ok((BigEndian::read_u16(front), rest))
+    let (front, rest) = bytes.split_at(width);
+    Ok((BigEndian::read_uint(front, width), rest))
 }
 
-#[tactic(auto, using(crate::proofs::BigNumbers::big_numbers))]
-pub(crate) fn u32_at(bytes: &[u8]) -> Result<(u32, &[u8]), ReadError>
-    ensures { Gives (λ x. (x.0, x.1.now)) result (number_at w32 bytes.now) }
+// The higher groups of seven bits, of which so many can have a high bit.
+#[tactic(auto, unfolding(crate::specs::Reading::groups_at))]
+fn groups_at(wrong: Fault, most: u8, bytes: &[u8]) -> Result<(u64, &[u8]), ReadError>
+    requires { most ≤ 8 }
+    ensures { Gives (λ x. (x.0, x.1.now)) result (groups_at wrong most bytes.now) }
 {
-    if bytes.len() < 4 {
+    let [byte, rest @ ..] = bytes else {
         return Err(ReadError::SHORT);
+    };
+    let byte = *byte;
+    if most == 0 {
+        return if byte == 1 {
+            Ok((1, rest))
+        } else {
+            Err(ReadError::Fault(wrong))
+        };
     }
-    let (front, rest) = bytes.split_at(4);
-    Ok((BigEndian::read_u32(front), rest))
+    if byte == 0 {
+        return Err(ReadError::Fault(wrong));
+    }
+    if byte < 128 {
+        return Ok((u64::from(byte), rest));
+    }
+    let (higher, rest) = groups_at(wrong, most - 1, rest)?;
+    Ok((u64::from(byte - 128) + 128 * higher, rest))
 }
 
-#[tactic(auto, using(crate::proofs::BigNumbers::big_numbers))]
-pub(crate) fn u64_at(bytes: &[u8]) -> Result<(u64, &[u8]), ReadError>
-    ensures { Gives (λ x. (x.0, x.1.now)) result (number_at w64 bytes.now) }
+#[tactic(auto, unfolding(crate::specs::Reading::grouped_at))]
+fn grouped_at(bytes: &[u8]) -> Result<(u64, &[u8]), ReadError>
+    ensures { Gives (λ x. (x.0, x.1.now)) result (grouped_at bytes.now) }
 {
-    if bytes.len() < 8 {
+    let [byte, rest @ ..] = bytes else {
         return Err(ReadError::SHORT);
+    };
+    let byte = *byte;
+    if byte < 128 {
+        return Ok((u64::from(byte), rest));
     }
-    let (front, rest) = bytes.split_at(8);
-    Ok((BigEndian::read_u64(front), rest))
+    let wrong = Fault {
+        kind: FormatKind::BadForm,
+        left: bytes.len(),
+    };
+    let (higher, rest) = groups_at(wrong, 8, rest)?;
+    Ok((u64::from(byte - 128) + 128 * higher, rest))
 }
 
-// A whole number that is out of its range, which begins where so many bytes are left.
-const fn bad_count(left: usize) -> ReadError
-    ensures { result ≡ ReadError.Fault (record { kind = FormatKind.BadCount; left = left }) }
+/// A number of this size.
+#[tactic(auto, unfolding(crate::specs::Reading::number_at))]
+pub(crate) fn number_at(
+    version: Version,
+    size: Size,
+    bytes: &[u8],
+) -> Result<(u64, &[u8]), ReadError>
+    ensures reads { Gives (λ x. (x.0, x.1.now)) result (number_at version size bytes.now) }
+    ensures fits { IfOk result (λ x. x.0 ≤ greatest size) }
 {
-    ReadError::Fault(Fault {
-        kind: FormatKind::BadCount,
-        left,
-    })
+    match version {
+        Version::One => wide_at(size, bytes),
+        Version::Two => {
+            let (number, rest) = grouped_at(bytes)?;
+            if number > size.greatest() {
+                return Err(ReadError::at(FormatKind::BadCount, bytes));
+            }
+            Ok((number, rest))
+        }
+    }
+}
+
+/// A number of 32 bits.
+pub(crate) fn u32_at(version: Version, bytes: &[u8]) -> Result<(u32, &[u8]), ReadError>
+    ensures { Gives (λ x. (x.0, x.1.now)) result (number_at version Size.Bits32 bytes.now) }
+{
+    let (number, rest) = number_at(version, Size::Bits32, bytes)?;
+    Ok((number as u32, rest))
 }
 
 /// The number of threads.
 #[tactic(auto, unfolding(crate::specs::Reading::number_up_to))]
-pub(crate) fn threads_at(bytes: &[u8]) -> Result<(u16, &[u8]), ReadError>
-    ensures { Gives (λ x. (x.0, x.1.now)) result (number_up_to w16 16 bytes.now) }
+pub(crate) fn threads_at(version: Version, bytes: &[u8]) -> Result<(u16, &[u8]), ReadError>
+    ensures { Gives (λ x. (x.0, x.1.now)) result (number_up_to version Size.Bits16 16 bytes.now) }
 {
-    let (threads, rest) = u16_at(bytes)?;
+    let (threads, rest) = number_at(version, Size::Bits16, bytes)?;
     if threads > 16 {
-        return Err(bad_count(bytes.len()));
+        return Err(ReadError::at(FormatKind::BadCount, bytes));
     }
-    Ok((threads, rest))
+    Ok((threads as u16, rest))
 }
 
 /// A number of entries or of instructions, up to a limit.
 #[tactic(auto, unfolding(crate::specs::Reading::number_up_to))]
-pub(crate) fn u32_up_to(limit: u32, bytes: &[u8]) -> Result<(u32, &[u8]), ReadError>
-    ensures { Gives (λ x. (x.0, x.1.now)) result (number_up_to w32 limit bytes.now) }
+pub(crate) fn u32_up_to(
+    version: Version,
+    limit: u32,
+    bytes: &[u8],
+) -> Result<(u32, &[u8]), ReadError>
+    ensures { Gives (λ x. (x.0, x.1.now)) result (number_up_to version Size.Bits32 limit bytes.now) }
 {
-    let (number, rest) = u32_at(bytes)?;
+    let (number, rest) = u32_at(version, bytes)?;
     if number > limit {
-        return Err(bad_count(bytes.len()));
+        return Err(ReadError::at(FormatKind::BadCount, bytes));
     }
     Ok((number, rest))
 }
 
 /// How many instructions each thread may make.
 #[tactic(auto, unfolding(crate::specs::Reading::fuel_at))]
-pub(crate) fn fuel_of(bytes: &[u8]) -> Result<(u32, &[u8]), ReadError>
-    ensures { Gives (λ x. (x.0, x.1.now)) result (fuel_at bytes.now) }
+pub(crate) fn fuel_at(version: Version, bytes: &[u8]) -> Result<(u32, &[u8]), ReadError>
+    ensures { Gives (λ x. (x.0, x.1.now)) result (fuel_at version bytes.now) }
 {
-    let (fuel, rest) = u32_up_to(1_000_000, bytes)?;
+    let (fuel, rest) = u32_up_to(version, 1_000_000, bytes)?;
     if fuel == 0 {
-        return Err(bad_count(bytes.len()));
+        return Err(ReadError::at(FormatKind::BadCount, bytes));
     }
     Ok((fuel, rest))
 }

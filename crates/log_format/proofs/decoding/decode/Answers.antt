@@ -1,5 +1,5 @@
 use Rattle.std.proofs.Common.{arith}
-use Rattle.log_format.proofs.RoundTrip.{answer_is_spelled}
+use Rattle.log_format.proofs.BundleLaws.{answer_is_spelled}
 use Rattle.log_format.proofs.decoding.decode.Goals as goal
 
 pub returns-clause-spelled : goal.returns-clause-spelled

@@ -1,11 +1,12 @@
-use Rattle.std.proofs.Common.{◌≡◌, ◌++◌, All, take}
-use Rattle.std.specs.List.{flat_map}
-use Rattle.log_format.specs.Bundles.{FitsItsType}
-use Rattle.log_format.specs.Spelling.{entry_bytes}
+use Rattle.std.proofs.Common.{◌≡◌, ◌++◌, All, drop, take}
+use Rattle.log_format.specs.Bundles.{IsEntryOf}
+use Rattle.log_format.specs.Spelling.{entries_bytes}
+use Rattle.log_format.specs.declared.version.Version.TheVariants.{Two}
 use Rattle.log_format.proofs.encoding.put_entries.Given as goal
 
--- written so far are the entries up to here, and each fits its type
+-- what was written, and the entries from here on, are all entries; each up to here is one of version 2
 abbrev pub invariant-loop-entry : goal.invariant-loop-entry
-invariant-loop-entry l =
-    (l.out.items ≡ l.fn.out.items ++ flat_map entry_bytes (take l.entry-index l.entries))
-    × All FitsItsType (take l.entry-index l.entries)
+invariant-loop-entry l = record {
+  written : l.out.items ++ entries_bytes Two l.before (drop l.entry-index l.entries) ≡ l.fn.out.items ++ entries_bytes Two 0 l.entries;
+  fit : All (IsEntryOf Two) (take l.entry-index l.entries);
+}

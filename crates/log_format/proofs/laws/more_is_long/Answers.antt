@@ -1,4 +1,4 @@
-use Rattle.log_format.proofs.RoundTrip.{more_is_long as law}
+use Rattle.log_format.proofs.BundleLaws.{more_is_long as law}
 use Rattle.log_format.proofs.laws.more_is_long.Goals as goal
 
 pub returns : goal.returns

@@ -1,4 +1,4 @@
-use Rattle.log_format.proofs.RoundTrip.{read_is_spelled as law}
+use Rattle.log_format.proofs.BundleLaws.{read_is_spelled as law}
 use Rattle.log_format.proofs.laws.read_is_spelled.Goals as goal
 
 pub returns : goal.returns
