@@ -46,7 +46,7 @@ impl<'p> Task<'p> {
         ensures small { at < 65536 }
         ensures fine { (depth : ℕ) → Reaches self.now.program.now self.now.thread at depth → IsFine self.now.program.now self.now.thread at depth }
     {
-        self.program.is_sound();
+        self.program.facts();
         self.code[at as usize]
     }
 }
