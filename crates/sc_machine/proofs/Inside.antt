@@ -1,7 +1,7 @@
 -- Lemmas on what always holds of a `ThreadRun`.
 use borrow.Author.Tests.{ltb-true}
 use Rattle.std.proofs.lemmas.Bool.{le-ltb, lt-ltb}
-use Rattle.std.proofs.Common.{cond, refl, append-nil, ◌≡◌, ℕ, ◌+◌, ◌<◌, ◌≤◌, List, [], Bool, true, false, Option, Some, None, nat_lt, unwrap_or, length, sym, ◌∙◌, ap, subst, arith}
+use Rattle.std.proofs.Common.{cond, refl, ◌≡◌, ℕ, ◌+◌, ◌<◌, ◌≤◌, List, Bool, true, false, Option, Some, None, nat_lt, unwrap_or, length, sym, ◌∙◌, ap, subst, arith}
 use Rattle.stride_base.specs.Listed.{Listed}
 use Rattle.stride_isa.specs.Instructions.{kind, popped}
 use Rattle.stride_isa.specs.Listing.{Listing, code_of, op_at}
@@ -12,7 +12,7 @@ use Rattle.sc_machine.specs.declared.end.End.TheVariants.{OutOfSteps}
 use Rattle.sc_machine.specs.declared.instruction.Next.TheVariants as nexts
 use Rattle.sc_machine.specs.declared.stop.Stop.{Stop}
 use Rattle.sc_machine.specs.declared.stop.Stop.TheVariants.{Read, Write, Update, Enter, Exit, Ended}
-use Rattle.sc_machine.specs.ThreadStep.{Row, Goes, Ends, Stands, now_unless, row, stop_in, done_stack, out_of_steps}
+use Rattle.sc_machine.specs.ThreadStep.{Row, now_unless, row, stop_in, done_stack, out_of_steps}
 use Rattle.sc_machine.specs.Made.{Made}
 use Rattle.sc_machine.specs.ThreadRun.{Run, stop_at, IsShared, TakesWord}
 use Rattle.sc_machine.specs.ThreadRunInside.{IsRun}

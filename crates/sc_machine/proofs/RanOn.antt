@@ -1,5 +1,5 @@
 -- Lemmas on the loop that runs a thread.
-use Rattle.std.proofs.Common.{◌≡◌, ℕ, ◌+◌, ◌-◌, ◌*◌, ◌<◌, ◌≤◌, List, ◌++◌, Bool, Option, Some, None, length, refl, sym, ◌∙◌, ap, subst, append-nil, arith}
+use Rattle.std.proofs.Common.{◌≡◌, ℕ, ◌+◌, ◌<◌, ◌≤◌, List, ◌++◌, Bool, Option, Some, None, length, refl, sym, ◌∙◌, ap, subst, append-nil, arith}
 use Rattle.std.proofs.lemmas.List.{length-reverse, length-take-le}
 use Rattle.stride_base.specs.Listed.{Listed}
 use Rattle.stride_isa.specs.Listing.{Listing, op_at}
@@ -16,7 +16,7 @@ use Rattle.sc_machine.specs.Running.{RanOn, ended_by}
 use Rattle.sc_machine.specs.ThreadRun.{IsShared}
 use Rattle.sc_machine.specs.ThreadRunInside.{IsRun}
 use Rattle.sc_machine.specs.ThreadStep.{Thread, Row, Goes, Ends, Stands, row, now, moved, local_step, settled, out_of_steps}
-use Rattle.sc_machine.proofs.Inside.{is_run_after_going, spent, unspent}
+use Rattle.sc_machine.proofs.Inside.{spent}
 use Rattle.sc_machine.proofs.Rows.{row_stands}
 use Rattle.sc_machine.proofs.Steps.{settled-standing, settled-step}
 

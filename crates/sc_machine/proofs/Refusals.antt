@@ -91,13 +91,6 @@ stuck_place-at p fuel [] t ys m after made refused =
 stuck_place-at p fuel (u ∷ xs) t ys m after made refused =
     refused_under (can p u m) (turns p fuel xs (turn p fuel u m)) _ (length xs) after made (λ e. stuck_place-at p fuel xs t ys (turn p fuel u m) after e refused)
 
--- one more turn, of a thread that is enabled
-pub turns-push : (p : Listing) (fuel : ℕ) (xs : List ℕ) (t : ℕ) (m after : Machine) → turns p fuel xs m ≡ Some after → can p t after ≡ true → turns p fuel (xs ++ t ∷ []) m ≡ Some (turn p fuel t after)
-unfolding turns
-turns-push p fuel xs t m after made enabled =
-    turns-append p fuel xs (t ∷ []) m ∙ ap (λ o. option_and_then (turns p fuel (t ∷ [])) o) made
-    ∙ ap (λ b. cond b (Some (turn p fuel t after)) None) enabled
-
 -- where all turns are made, nothing is refused
 pub replayed-made : (p : Listing) (fuel : ℕ) (schedule : List ℕ) (m : Machine) → turns p fuel schedule (ready p fuel) ≡ Some m → (refused_place p fuel schedule ≡ None) × (replayed p fuel schedule ≡ Some (finished m))
 replayed-made p fuel schedule m made = (

@@ -102,10 +102,6 @@ pub length-sc_step : (p : Listing) (fuel t : ℕ) (m : Machine) → length (sc_s
 unfolding sc_step
 length-sc_step p fuel t m = length-stepped p fuel t (now p t (thread_at m t)) m
 
-pub length-turn : (p : Listing) (fuel t : ℕ) (m : Machine) → length (turn p fuel t m).threads ≡ length m.threads
-unfolding turn
-length-turn p fuel t m = length-settle p fuel t (sc_step p fuel t m) ∙ length-sc_step p fuel t m
-
 -- an enabled thread is there
 pub there_from_can : (p : Listing) (t : ℕ) (m : Machine) → can p t m ≡ true → t < length m.threads
 there_from_can p t m e = ltb-true t (length m.threads) (first_of_both (nat_lt t (length m.threads)) (may_make t (now p t (thread_at m t)) m.holders) e)

@@ -1,5 +1,5 @@
 -- Lemmas on the local steps of one thread.
-use Rattle.std.proofs.Common.{◌≡◌, ℕ, zero, suc, ◌+◌, ◌-◌, ◌*◌, ◌<◌, ◌≤◌, Some, length, refl, sym, ◌∙◌, ap, subst, arith}
+use Rattle.std.proofs.Common.{◌≡◌, ℕ, zero, suc, ◌+◌, ◌-◌, ◌<◌, Some, refl, sym, ◌∙◌, ap, arith}
 use Rattle.stride_isa.specs.Listing.{Listing, op_at}
 use Rattle.sc_machine.specs.declared.end.End.{End}
 use Rattle.sc_machine.specs.declared.stop.Stop.{Stop}

@@ -166,7 +166,9 @@ fn position_and_count_are_told(rt: HostRuntime) -> Result<(), Fail> {
         let mut run = ThreadRun::start(&checked, 0, fuel);
         assert!(rt; run.pc() == 0 && run.made() == 0 && run.ended().is_none());
         run.local(&mut out);
-        assert!(rt; run.pc() == pc && run.made() == made && run.ended() == ended);
+        for told in [run.copy(), run] {
+            assert!(rt; told.pc() == pc && told.made() == made && told.ended() == ended);
+        }
     }
     Ok(())
 }
