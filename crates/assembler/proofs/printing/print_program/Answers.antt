@@ -13,4 +13,4 @@ pub returns-clause-read_back : goal.returns-clause-read_back
 returns-clause-read_back c =
     let printed : c.put_threads.new.text.items ≡ canonical c.args.program.now =
     three_parts c.args.program.now _ _ _ _ c.new-text.ensures.items c.in_ok-put_decls.ensures c.in_ok-put_monitors.ensures c.in_ok-put_threads.ensures in
-    ap spelled printed ∙ canonical_is_read_back c.args.program.now c.is_sound.ensures.formed c.is_sound.ensures.valid
+    ap spelled printed ∙ canonical_is_read_back c.args.program.now c.facts.ensures.formed c.facts.ensures.valid
