@@ -130,7 +130,7 @@ placed-code p thread formed valid inside =
     }
 
 -- so are all operands of a program
-printable : (p : Listing) → IsWellFormed p → IsValid p → IsPrintableListing p
+pub printable : (p : Listing) → IsWellFormed p → IsValid p → IsPrintableListing p
 printable p formed valid =
     record {
       decls = formed.decls;

@@ -180,6 +180,7 @@ fn put_threads(alloc: Global, text: &mut List<u8>, program: &Checked) -> Result<
 /// The canonical text of a program, which spells the same program.
 pub fn print_program(alloc: Global, program: &Checked) -> Result<List<u8>, NoMemory>
     ensures canonical { IfOk result (λ text. text.items ≡ canonical program.now) }
+    ensures short { IfOk result (λ text. length text.items < 4000000) }
     ensures read_back { IfOk result (λ text. spelled text.items ≡ Ok program.now) }
 {
     program.facts();
