@@ -9,6 +9,7 @@ pub mod OrderLemmas
 pub mod PrintedExamples
 pub mod PrintedForms
 pub mod PrintedLabels
+pub mod PrintedLength
 pub mod PrintedLines
 pub mod PrintedNames
 pub mod PrintedNumbers

@@ -2,17 +2,19 @@
 use Rattle.std.proofs.Common.{◌≡◌, ℕ, ◌+◌, ◌-◌, ◌^◌, ◌<◌, ◌&&◌, Bool, true, false, if◌then◌else◌, List, [], ◌∷◌, ◌++◌, map, flat_map, length, Some, codes, decimal, refl, ap, ◌∙◌, append_assoc, length-append, arith, le-leb, take_at}
 use Rattle.std.proofs.lemmas.List.{get_or_at}
 use Rattle.std.specs.List.{list_all, AllByRecursion, slice_index_or}
+use Rattle.stride_isa.specs.Instructions.{kind, operand}
 use Rattle.stride_isa.specs.Listing.{Listing, decl_at}
 use Rattle.stride_isa.specs.Names.{is_name, continues_name}
 use Rattle.stride_isa.specs.WellFormed.{HasSize, IsDeclaration}
 use Rattle.stride_isa.specs.declared.decl.Decl.{Decl}
 use Rattle.stride_isa.specs.declared.decl.Shape.{Shape}
-use Rattle.stride_isa.specs.declared.decl.Shape.TheVariants.{Single, Array}
+use Rattle.stride_isa.specs.declared.decl.Shape.TheVariants as shapes
 use Rattle.stride_isa.specs.declared.op.Op.{Op}
 use Rattle.stride_isa.specs.declared.op.Op.TheVariants as ops
-use Rattle.stride_isa.specs.declared.op.OpKind.TheVariants as kinds
+use Rattle.stride_isa.specs.declared.operand.Operand.{Operand}
+use Rattle.stride_isa.specs.declared.operand.Operand.TheVariants.{Nothing, Number, Local, Label, Variable, Array, Monitor}
 use Rattle.assembler.specs.Canonical.{decl_words, monitor_words, label_name, is_target, op_words, label_lines, code_lines, thread_lines, canonical_lines, canonical}
-use Rattle.assembler.specs.Forms.{Form, VarLine, ArrayLine, MonitorLine, ThreadLine, LabelLine, WholeLine, JumpLine, AccessLine, TurnLine, label_form, form_of}
+use Rattle.assembler.specs.Forms.{Form, VarLine, ArrayLine, MonitorLine, ThreadLine, LabelLine, WholeLine, NamingLine, label_form, form_of}
 use Rattle.assembler.specs.Programs.{forms_in}
 use Rattle.assembler.specs.Lines.{lines}
 use Rattle.assembler.specs.Words.{words_of}
@@ -21,21 +23,22 @@ use Rattle.assembler.proofs.PrintedWords.{HasWords, is_word, is_solid, list_all-
 
 -- what the printed line of a declaration says
 abbrev pub decl_line : List ℕ → Shape → ℕ → Form
-decl_line name Single start = VarLine name (Some start)
-decl_line name (Array size) start = ArrayLine name (Some size) (Some start)
+decl_line name shapes.Single start = VarLine name (Some start)
+decl_line name (shapes.Array size) start = ArrayLine name (Some size) (Some start)
+
+-- what the printed line of an instruction with this operand says
+abbrev pub operand_line : Listing → Op → Operand → Form
+operand_line p op Nothing = WholeLine (Some op)
+operand_line p op (Number word) = WholeLine (Some op)
+operand_line p op (Local local) = WholeLine (Some op)
+operand_line p op (Label target) = NamingLine (kind op) (label_name target)
+operand_line p op (Variable decl) = NamingLine (kind op) (decl_at p decl).name
+operand_line p op (Array decl) = NamingLine (kind op) (decl_at p decl).name
+operand_line p op (Monitor monitor) = NamingLine (kind op) (slice_index_or p.monitors monitor [])
 
 -- what the printed line of an instruction says
 abbrev pub op_line : Listing → Op → Form
-op_line p (ops.Jump target) = JumpLine kinds.Jump (label_name target)
-op_line p (ops.Jz target) = JumpLine kinds.Jz (label_name target)
-op_line p (ops.Jnz target) = JumpLine kinds.Jnz (label_name target)
-op_line p (ops.Read decl) = AccessLine kinds.Read (decl_at p decl).name
-op_line p (ops.Write decl) = AccessLine kinds.Write (decl_at p decl).name
-op_line p (ops.ReadAt decl) = AccessLine kinds.ReadAt (decl_at p decl).name
-op_line p (ops.WriteAt decl) = AccessLine kinds.WriteAt (decl_at p decl).name
-op_line p (ops.Enter monitor) = TurnLine kinds.Enter (slice_index_or p.monitors monitor [])
-op_line p (ops.Exit monitor) = TurnLine kinds.Exit (slice_index_or p.monitors monitor [])
-op_line p op = WholeLine (Some op)
+op_line p op = operand_line p op (operand op)
 
 -- the lines from here on, behind the label line of a position where there is one
 abbrev pub label_forms : Bool → ℕ → List Form → List Form
@@ -66,21 +69,19 @@ decls_forms (d ∷ decls) rest = decl_line d.name d.shape d.start ∷ decls_form
 abbrev pub canonical_forms : Listing → List Form
 canonical_forms p = decls_forms p.decls (monitors_forms p.monitors (threads_forms p p.threads))
 
--- the operand of an instruction is printed as a word that is read again
+-- an operand is printed as a word that is read again
+abbrev pub IsReadable : Listing → Operand → Type 0
+IsReadable p Nothing = Unit {0}
+IsReadable p (Number word) = word < 2 ^ 64
+IsReadable p (Local local) = local < 16
+IsReadable p (Label target) = target < 2 ^ 64
+IsReadable p (Variable decl) = is_name (decl_at p decl).name ≡ true
+IsReadable p (Array decl) = is_name (decl_at p decl).name ≡ true
+IsReadable p (Monitor monitor) = is_name (slice_index_or p.monitors monitor []) ≡ true
+
+-- so is the operand of an instruction
 abbrev pub IsPrintable : Listing → Op → Type 0
-IsPrintable p (ops.Push word) = word < 2 ^ 64
-IsPrintable p (ops.Get local) = local < 16
-IsPrintable p (ops.Set local) = local < 16
-IsPrintable p (ops.Jump target) = target < 2 ^ 64
-IsPrintable p (ops.Jz target) = target < 2 ^ 64
-IsPrintable p (ops.Jnz target) = target < 2 ^ 64
-IsPrintable p (ops.Read decl) = is_name (decl_at p decl).name ≡ true
-IsPrintable p (ops.Write decl) = is_name (decl_at p decl).name ≡ true
-IsPrintable p (ops.ReadAt decl) = is_name (decl_at p decl).name ≡ true
-IsPrintable p (ops.WriteAt decl) = is_name (decl_at p decl).name ≡ true
-IsPrintable p (ops.Enter monitor) = is_name (slice_index_or p.monitors monitor []) ≡ true
-IsPrintable p (ops.Exit monitor) = is_name (slice_index_or p.monitors monitor []) ≡ true
-IsPrintable p op = Unit {0}
+IsPrintable p op = IsReadable p (operand op)
 
 -- so is the operand of each instruction of a thread, and its positions are numbers of 64 bits
 pub record IsPrintableCode (p : Listing) (code : List Op) : Type 0 where
@@ -95,10 +96,10 @@ pub record IsPrintableListing (p : Listing) : Type 0 where
 
 -- the printed line of a declaration says the declaration
 form_of-decl : (name : List ℕ) (shape : Shape) (start : ℕ) → is_name name ≡ true → HasSize shape → start < 2 ^ 64 → form_of (decl_words name shape start) ≡ decl_line name shape start
-form_of-decl name Single start named size small =
+form_of-decl name shapes.Single start named size small =
     let read = number-decimal (2 ^ 64) start small small in
     rw (named, read) refl
-form_of-decl name (Array count) start named size small =
+form_of-decl name (shapes.Array count) start named size small =
     let read = number-decimal (2 ^ 64) start small small in
     let read_size = number-decimal 257 count (omega arith) (omega arith) in
     let some = le-leb 1 count (omega arith) in
@@ -130,6 +131,9 @@ form_of-op p (ops.Read decl) fits = rw fits refl
 form_of-op p (ops.Write decl) fits = rw fits refl
 form_of-op p (ops.ReadAt decl) fits = rw fits refl
 form_of-op p (ops.WriteAt decl) fits = rw fits refl
+form_of-op p (ops.Xchg decl) fits = rw fits refl
+form_of-op p (ops.AddTo decl) fits = rw fits refl
+form_of-op p (ops.Cas decl) fits = rw fits refl
 form_of-op p (ops.Enter monitor) fits = rw fits refl
 form_of-op p (ops.Exit monitor) fits = rw fits refl
 form_of-op p op fits = refl
@@ -193,8 +197,8 @@ is_word-label_name at small = is_word-name (label_name at) (is_name-label at sma
 
 -- the words of a declaration are words
 has_words-decl : (name : List ℕ) (shape : Shape) (start : ℕ) → is_name name ≡ true → HasSize shape → start < 2 ^ 64 → HasWords (decl_words name shape start)
-has_words-decl name Single start named size small = (refl, (is_word-name name named, (is_word-decimal start small, tt)))
-has_words-decl name (Array count) start named size small =
+has_words-decl name shapes.Single start named size small = (refl, (is_word-name name named, (is_word-decimal start small, tt)))
+has_words-decl name (shapes.Array count) start named size small =
     (refl, (is_word-name name named, (is_word-decimal count (omega arith), (is_word-decimal start small, tt))))
 
 -- the words of an instruction are words
@@ -209,6 +213,9 @@ has_words-op p (ops.Read decl) fits = (refl, (is_word-name (decl_at p decl).name
 has_words-op p (ops.Write decl) fits = (refl, (is_word-name (decl_at p decl).name fits, tt))
 has_words-op p (ops.ReadAt decl) fits = (refl, (is_word-name (decl_at p decl).name fits, tt))
 has_words-op p (ops.WriteAt decl) fits = (refl, (is_word-name (decl_at p decl).name fits, tt))
+has_words-op p (ops.Xchg decl) fits = (refl, (is_word-name (decl_at p decl).name fits, tt))
+has_words-op p (ops.AddTo decl) fits = (refl, (is_word-name (decl_at p decl).name fits, tt))
+has_words-op p (ops.Cas decl) fits = (refl, (is_word-name (decl_at p decl).name fits, tt))
 has_words-op p (ops.Enter monitor) fits = (refl, (is_word-name (slice_index_or p.monitors monitor []) fits, tt))
 has_words-op p (ops.Exit monitor) fits = (refl, (is_word-name (slice_index_or p.monitors monitor []) fits, tt))
 has_words-op p op fits = (refl, tt)

@@ -1,25 +1,28 @@
 -- The canonical text of a valid program is read as this program.
-use Rattle.std.proofs.Common.{◌≡◌, ℕ, ◌^◌, ◌<◌, ◌≤◌, Bool, true, zero, suc, List, [], ◌∷◌, map, length, get_or, Option, Some, Ok, refl, ap, sym, ◌∙◌, arith, eq-eqb}
+use Rattle.std.proofs.Common.{◌≡◌, ℕ, ◌^◌, ◌<◌, ◌≤◌, Bool, true, zero, suc, List, [], ◌∷◌, map, length, get_or, Option, Some, None, Ok, refl, ap, sym, ◌∙◌, arith, eq-eqb}
 use Rattle.std.proofs.lemmas.Bool.{or_left, or_right}
 use Rattle.std.proofs.lemmas.List.{get_or-map, length-map}
 use Rattle.std.proofs.lemmas.List.Elements.{All-from_recursion, recursion_from_All, All-from_get_or}
 use Rattle.std.specs.List.{AllByRecursion, list_any, slice_index_or}
+use Rattle.stride_isa.specs.Instructions.{operand}
 use Rattle.stride_isa.specs.Listing.{Listing, empty, code_of, op_at, decl_at, instruction_count}
 use Rattle.stride_isa.specs.Names.{is_name}
-use Rattle.stride_isa.specs.Validity.{IsValid, Names, TargetsInside}
-use Rattle.stride_isa.specs.WellFormed.{IsWellFormed, IsDeclaration, PushesWord}
+use Rattle.stride_isa.specs.Validity.{IsValid, IsThere, IsInside, Names, TargetsInside, label_of, target_of}
+use Rattle.stride_isa.specs.WellFormed.{IsWellFormed, IsDeclaration, IsWord, PushesWord}
 use Rattle.stride_isa.specs.declared.decl.Decl.{Decl}
 use Rattle.stride_isa.specs.declared.decl.Shape.TheVariants.{Single}
 use Rattle.stride_isa.specs.declared.op.Op.{Op}
 use Rattle.stride_isa.specs.declared.op.Op.TheVariants as ops
-use Rattle.assembler.specs.Canonical.{label_name, jumps_to, is_target}
+use Rattle.stride_isa.specs.declared.operand.Operand.{Operand}
+use Rattle.stride_isa.specs.declared.operand.Operand.TheVariants.{Nothing, Number, Local, Label, Variable, Array, Monitor}
+use Rattle.assembler.specs.Canonical.{label_name, is_place, jumps_to, is_target}
 use Rattle.assembler.specs.Forms.{Form}
 use Rattle.assembler.specs.Laws.{CanonicalIsReadBack}
 use Rattle.assembler.specs.Programs.{find_name, find_decl, find_monitor, program_of}
-use Rattle.assembler.proofs.PrintedForms.{IsPrintable, IsPrintableCode, IsPrintableListing, canonical_forms, monitors_forms, threads_forms, forms_in-canonical}
+use Rattle.assembler.proofs.PrintedForms.{IsReadable, IsPrintable, IsPrintableCode, IsPrintableListing, canonical_forms, monitors_forms, threads_forms, forms_in-canonical}
 use Rattle.assembler.proofs.PrintedLabels.{place_of-code}
 use Rattle.assembler.proofs.PrintedNames.{distinct-first, distinct-second, find_name-at}
-use Rattle.assembler.proofs.ReadCode.{IsPlaced, IsPlacedCode, places_in, reading-threads}
+use Rattle.assembler.proofs.ReadCode.{IsFound, IsPlaced, IsPlacedCode, places_in, reading-threads}
 use Rattle.assembler.proofs.ReadDecls.{declaring, reading-decls, reading-monitors}
 use Rattle.assembler.proofs.ReadLines.{reading, program_of-reading}
 
@@ -60,38 +63,41 @@ named_monitor : (p : Listing) (monitor : ℕ) → IsWellFormed p → monitor < l
 named_monitor p monitor formed inside =
     All-from_recursion (λ name. is_name name ≡ true) p.monitors formed.monitors monitor [] inside
 
--- the operand of an instruction of a program is printed as a word that is read again
+-- an operand of an instruction of a program is printed as a word that is read again
+readable-operand : (p : Listing) (thread : ℕ) (named : Operand) → IsWellFormed p → length (code_of p thread) < 2 ^ 64 → IsWord named → IsThere p named → IsInside p thread (label_of named) → IsReadable p named
+readable-operand p thread Nothing formed short fits there inside = tt
+readable-operand p thread (Number word) formed short fits there inside = fits
+readable-operand p thread (Local local) formed short fits there inside = there
+readable-operand p thread (Label target) formed short fits there inside = omega arith
+readable-operand p thread (Variable decl) formed short fits there inside = named_decl p decl formed there.0
+readable-operand p thread (Array decl) formed short fits there inside = named_decl p decl formed there.0
+readable-operand p thread (Monitor monitor) formed short fits there inside = named_monitor p monitor formed there
+
 printable-op : (p : Listing) (thread : ℕ) (op : Op) → IsWellFormed p → length (code_of p thread) < 2 ^ 64 → PushesWord op → Names p op → TargetsInside p thread op → IsPrintable p op
-printable-op p thread (ops.Push word) formed short word_fits names inside = word_fits
-printable-op p thread (ops.Get local) formed short word_fits names inside = names
-printable-op p thread (ops.Set local) formed short word_fits names inside = names
-printable-op p thread (ops.Jump target) formed short word_fits names inside = omega arith
-printable-op p thread (ops.Jz target) formed short word_fits names inside = omega arith
-printable-op p thread (ops.Jnz target) formed short word_fits names inside = omega arith
-printable-op p thread (ops.Read decl) formed short word_fits names inside = named_decl p decl formed names.0
-printable-op p thread (ops.Write decl) formed short word_fits names inside = named_decl p decl formed names.0
-printable-op p thread (ops.ReadAt decl) formed short word_fits names inside = named_decl p decl formed names.0
-printable-op p thread (ops.WriteAt decl) formed short word_fits names inside = named_decl p decl formed names.0
-printable-op p thread (ops.Enter monitor) formed short word_fits names inside = named_monitor p monitor formed names
-printable-op p thread (ops.Exit monitor) formed short word_fits names inside = named_monitor p monitor formed names
-printable-op p thread op formed short word_fits names inside = tt
+printable-op p thread op formed short fits names inside = readable-operand p thread (operand op) formed short fits names inside
 
 -- each target in the code of a thread has its label at its position
 abbrev FindsTargets : (List ℕ → Option ℕ) → List Op → Type 0
 FindsTargets place code = (t : ℕ) → is_target code t ≡ true → t < length code → place (label_name t) ≡ Some t
 
+-- what an operand of a program names is found where the instruction stands
+found-operand : (p : Listing) (thread : ℕ) (named : Operand) (place : List ℕ → Option ℕ) → IsWellFormed p → ((t : ℕ) → label_of named ≡ Some t → is_target (code_of p thread) t ≡ true) → FindsTargets place (code_of p thread) → IsThere p named → IsInside p thread (label_of named) → IsFound place p named
+found-operand p thread Nothing place formed stands finds there inside = tt
+found-operand p thread (Number word) place formed stands finds there inside = tt
+found-operand p thread (Local local) place formed stands finds there inside = tt
+found-operand p thread (Label target) place formed stands finds there inside = finds target (stands target refl) inside
+found-operand p thread (Variable decl) place formed stands finds there inside = find_decl-at p decl formed there.0
+found-operand p thread (Array decl) place formed stands finds there inside = find_decl-at p decl formed there.0
+found-operand p thread (Monitor monitor) place formed stands finds there inside = find_monitor-at p monitor formed there
+
+is_place-same : (target : Option ℕ) (t : ℕ) → target ≡ Some t → is_place t target ≡ true
+is_place-same (Some target) t e = let same : target ≡ t = cc in eq-eqb target t same
+is_place-same None t e = absurd (cc)
+
 -- what an instruction of a program names is found where it stands
 placed-op : (p : Listing) (thread : ℕ) (op : Op) (place : List ℕ → Option ℕ) → IsWellFormed p → ((test : Op → Bool) → test op ≡ true → list_any test (code_of p thread) ≡ true) → FindsTargets place (code_of p thread) → Names p op → TargetsInside p thread op → IsPlaced place p op
-placed-op p thread (ops.Jump target) place formed stands finds names inside = finds target (stands (jumps_to target) (eq-eqb target target refl)) inside
-placed-op p thread (ops.Jz target) place formed stands finds names inside = finds target (stands (jumps_to target) (eq-eqb target target refl)) inside
-placed-op p thread (ops.Jnz target) place formed stands finds names inside = finds target (stands (jumps_to target) (eq-eqb target target refl)) inside
-placed-op p thread (ops.Read decl) place formed stands finds names inside = find_decl-at p decl formed names.0
-placed-op p thread (ops.Write decl) place formed stands finds names inside = find_decl-at p decl formed names.0
-placed-op p thread (ops.ReadAt decl) place formed stands finds names inside = find_decl-at p decl formed names.0
-placed-op p thread (ops.WriteAt decl) place formed stands finds names inside = find_decl-at p decl formed names.0
-placed-op p thread (ops.Enter monitor) place formed stands finds names inside = find_monitor-at p monitor formed names
-placed-op p thread (ops.Exit monitor) place formed stands finds names inside = find_monitor-at p monitor formed names
-placed-op p thread op place formed stands finds names inside = tt
+placed-op p thread op place formed stands finds names inside =
+    found-operand p thread (operand op) place formed (λ t e. stands (jumps_to t) (is_place-same (target_of op) t e)) finds names inside
 
 -- the code of a thread has at most as many instructions as a program may have
 short-code : (p : Listing) (thread : ℕ) → IsWellFormed p → length (code_of p thread) ≤ 65536
@@ -124,7 +130,7 @@ placed-code p thread formed valid inside =
     }
 
 -- so are all operands of a program
-printable : (p : Listing) → IsWellFormed p → IsValid p → IsPrintableListing p
+pub printable : (p : Listing) → IsWellFormed p → IsValid p → IsPrintableListing p
 printable p formed valid =
     record {
       decls = formed.decls;

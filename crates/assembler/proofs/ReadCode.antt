@@ -3,9 +3,12 @@ use Rattle.std.proofs.Common.{◌≡◌, ℕ, ◌+◌, ◌^◌, ◌<◌, ◌≤�
 use Rattle.std.proofs.lemmas.Bool.{lt-leb}
 use Rattle.std.proofs.lemmas.List.{length_push}
 use Rattle.std.specs.List.{AllByRecursion, slice_index_or}
+use Rattle.stride_isa.specs.Instructions.{operand}
 use Rattle.stride_isa.specs.Listing.{Listing, decl_at, instruction_count, push_last}
 use Rattle.stride_isa.specs.declared.op.Op.{Op}
 use Rattle.stride_isa.specs.declared.op.Op.TheVariants as ops
+use Rattle.stride_isa.specs.declared.operand.Operand.{Operand}
+use Rattle.stride_isa.specs.declared.operand.Operand.TheVariants.{Nothing, Number, Local, Label, Variable, Array, Monitor}
 use Rattle.assembler.specs.Canonical.{label_name, is_target}
 use Rattle.assembler.specs.Forms.{Form, ThreadLine, LabelLine}
 use Rattle.assembler.specs.Labels.{Labels, labels_at, place_of, stands_before, thread_lines}
@@ -19,18 +22,19 @@ use Rattle.assembler.proofs.ReadLines.{reading, reading-line}
 abbrev pub with_threads : Listing → List (List Op) → Listing
 with_threads p threads = record { decls = p.decls; monitors = p.monitors; threads = threads }
 
--- what an instruction names is found where it stands
+-- what an operand names is found where the instruction stands
+abbrev pub IsFound : (List ℕ → Option ℕ) → Listing → Operand → Type 0
+IsFound place p Nothing = Unit {0}
+IsFound place p (Number word) = Unit {0}
+IsFound place p (Local local) = Unit {0}
+IsFound place p (Label target) = place (label_name target) ≡ Some target
+IsFound place p (Variable decl) = find_decl (decl_at p decl).name p ≡ Some decl
+IsFound place p (Array decl) = find_decl (decl_at p decl).name p ≡ Some decl
+IsFound place p (Monitor monitor) = find_monitor (slice_index_or p.monitors monitor []) p ≡ Some monitor
+
+-- so is what an instruction names
 abbrev pub IsPlaced : (List ℕ → Option ℕ) → Listing → Op → Type 0
-IsPlaced place p (ops.Jump target) = place (label_name target) ≡ Some target
-IsPlaced place p (ops.Jz target) = place (label_name target) ≡ Some target
-IsPlaced place p (ops.Jnz target) = place (label_name target) ≡ Some target
-IsPlaced place p (ops.Read decl) = find_decl (decl_at p decl).name p ≡ Some decl
-IsPlaced place p (ops.Write decl) = find_decl (decl_at p decl).name p ≡ Some decl
-IsPlaced place p (ops.ReadAt decl) = find_decl (decl_at p decl).name p ≡ Some decl
-IsPlaced place p (ops.WriteAt decl) = find_decl (decl_at p decl).name p ≡ Some decl
-IsPlaced place p (ops.Enter monitor) = find_monitor (slice_index_or p.monitors monitor []) p ≡ Some monitor
-IsPlaced place p (ops.Exit monitor) = find_monitor (slice_index_or p.monitors monitor []) p ≡ Some monitor
-IsPlaced place p op = Unit {0}
+IsPlaced place p op = IsFound place p (operand op)
 
 -- the line of an instruction in a thread with room is not refused
 refusal-op : (labels : Labels) (p : Listing) (threads : List (List Op)) (op : Op) → IsPlaced labels.place p op → has_thread (with_threads p threads) ≡ true → nat_le 65536 (instruction_count threads) ≡ false → refusal labels (with_threads p threads) (op_line p op) ≡ None
@@ -41,6 +45,9 @@ refusal-op labels p threads (ops.Read decl) placed begun room = rw (begun, place
 refusal-op labels p threads (ops.Write decl) placed begun room = rw (begun, placed, room) refl
 refusal-op labels p threads (ops.ReadAt decl) placed begun room = rw (begun, placed, room) refl
 refusal-op labels p threads (ops.WriteAt decl) placed begun room = rw (begun, placed, room) refl
+refusal-op labels p threads (ops.Xchg decl) placed begun room = rw (begun, placed, room) refl
+refusal-op labels p threads (ops.AddTo decl) placed begun room = rw (begun, placed, room) refl
+refusal-op labels p threads (ops.Cas decl) placed begun room = rw (begun, placed, room) refl
 refusal-op labels p threads (ops.Enter monitor) placed begun room = rw (begun, placed, room) refl
 refusal-op labels p threads (ops.Exit monitor) placed begun room = rw (begun, placed, room) refl
 refusal-op labels p threads op placed begun room = rw (begun, room) refl
@@ -54,6 +61,9 @@ added-op labels p threads (ops.Read decl) placed = rw placed refl
 added-op labels p threads (ops.Write decl) placed = rw placed refl
 added-op labels p threads (ops.ReadAt decl) placed = rw placed refl
 added-op labels p threads (ops.WriteAt decl) placed = rw placed refl
+added-op labels p threads (ops.Xchg decl) placed = rw placed refl
+added-op labels p threads (ops.AddTo decl) placed = rw placed refl
+added-op labels p threads (ops.Cas decl) placed = rw placed refl
 added-op labels p threads (ops.Enter monitor) placed = rw placed refl
 added-op labels p threads (ops.Exit monitor) placed = rw placed refl
 added-op labels p threads op placed = refl

@@ -1,17 +1,19 @@
 -- The canonical text of a program: one spelling for each.
-use Rattle.std.specs.Prelude.{ℕ, ◌+◌, ◌==◌, Bool, false, if◌then◌else◌, List, [], ◌∷◌, ◌++◌, map, codes, decimal}
+use Rattle.std.specs.Prelude.{ℕ, ◌+◌, ◌==◌, Bool, false, if◌then◌else◌, List, [], ◌∷◌, ◌++◌, map, codes, decimal, Option, Some, None}
 use Rattle.std.specs.List.{flat_map, list_any, slice_index_or, join_with_byte}
-use Rattle.stride_isa.specs.Instructions.{kind, spelling}
+use Rattle.stride_isa.specs.Instructions.{kind, operand, spelling}
 use Rattle.stride_isa.specs.Listing.{Listing, decl_at}
+use Rattle.stride_isa.specs.Validity.{target_of}
 use Rattle.stride_isa.specs.declared.decl.Shape.{Shape}
-use Rattle.stride_isa.specs.declared.decl.Shape.TheVariants.{Single, Array}
+use Rattle.stride_isa.specs.declared.decl.Shape.TheVariants as shapes
 use Rattle.stride_isa.specs.declared.op.Op.{Op}
-use Rattle.stride_isa.specs.declared.op.Op.TheVariants.{Push, Get, Set, Jump, Jz, Jnz, Read, Write, ReadAt, WriteAt, Enter, Exit}
+use Rattle.stride_isa.specs.declared.operand.Operand.{Operand}
+use Rattle.stride_isa.specs.declared.operand.Operand.TheVariants.{Nothing, Number, Local, Label, Variable, Array, Monitor}
 
 -- the words of a declaration
 abbrev pub decl_words : List ℕ → Shape → ℕ → List (List ℕ)
-decl_words name Single start = codes "var" ∷ name ∷ decimal start ∷ []
-decl_words name (Array size) start = codes "array" ∷ name ∷ decimal size ∷ decimal start ∷ []
+decl_words name shapes.Single start = codes "var" ∷ name ∷ decimal start ∷ []
+decl_words name (shapes.Array size) start = codes "array" ∷ name ∷ decimal size ∷ decimal start ∷ []
 
 abbrev pub monitor_words : List ℕ → List (List ℕ)
 monitor_words name = codes "monitor" ∷ name ∷ []
@@ -20,35 +22,32 @@ monitor_words name = codes "monitor" ∷ name ∷ []
 abbrev pub label_name : ℕ → List ℕ
 label_name at = 76 ∷ decimal at
 
+-- whether this is the position, if there is one
+abbrev pub is_place : ℕ → Option ℕ → Bool
+is_place at (Some target) = target == at
+is_place at None = false
+
 -- whether an instruction jumps to the position
 abbrev pub jumps_to : ℕ → Op → Bool
-jumps_to at (Jump target) = target == at
-jumps_to at (Jz target) = target == at
-jumps_to at (Jnz target) = target == at
-jumps_to at op = false
+jumps_to at op = is_place at (target_of op)
 
 -- whether a jump of the code has this target
 abbrev pub is_target : List Op → ℕ → Bool
 is_target code at = list_any (jumps_to at) code
 
--- the words behind an instruction's name
-abbrev pub operand_words : Listing → Op → List (List ℕ)
-operand_words p (Push word) = decimal word ∷ []
-operand_words p (Get local) = decimal local ∷ []
-operand_words p (Set local) = decimal local ∷ []
-operand_words p (Jump target) = label_name target ∷ []
-operand_words p (Jz target) = label_name target ∷ []
-operand_words p (Jnz target) = label_name target ∷ []
-operand_words p (Read decl) = (decl_at p decl).name ∷ []
-operand_words p (Write decl) = (decl_at p decl).name ∷ []
-operand_words p (ReadAt decl) = (decl_at p decl).name ∷ []
-operand_words p (WriteAt decl) = (decl_at p decl).name ∷ []
-operand_words p (Enter monitor) = slice_index_or p.monitors monitor [] ∷ []
-operand_words p (Exit monitor) = slice_index_or p.monitors monitor [] ∷ []
-operand_words p op = []
+-- the words of an operand
+abbrev pub operand_words : Listing → Operand → List (List ℕ)
+operand_words p Nothing = []
+operand_words p (Number word) = decimal word ∷ []
+operand_words p (Local local) = decimal local ∷ []
+operand_words p (Label target) = label_name target ∷ []
+operand_words p (Variable decl) = (decl_at p decl).name ∷ []
+operand_words p (Array decl) = (decl_at p decl).name ∷ []
+operand_words p (Monitor monitor) = slice_index_or p.monitors monitor [] ∷ []
 
+-- the words of an instruction: its name and its operand
 abbrev pub op_words : Listing → Op → List (List ℕ)
-op_words p op = spelling (kind op) ∷ operand_words p op
+op_words p op = spelling (kind op) ∷ operand_words p (operand op)
 
 -- the line of a label, exactly where a jump has the position as its target
 abbrev pub label_lines : Bool → ℕ → List (List (List ℕ))

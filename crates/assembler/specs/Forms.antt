@@ -1,13 +1,14 @@
 -- What a line of a program's text says by itself.
-use Rattle.std.specs.Prelude.{ℕ, ◌-◌, ◌^◌, ◌==◌, List, [], ◌∷◌, codes, length, take, nat_le, slice_index, if◌then◌else◌, Option, Some, None, find, option_and_then}
+use Rattle.std.specs.Prelude.{ℕ, ◌+◌, ◌-◌, ◌^◌, ◌==◌, List, [], ◌∷◌, codes, length, take, nat_le, slice_index, if◌then◌else◌, Option, Some, None, option_and_then}
 use Rattle.std.specs.Option.{option_map}
 use Rattle.std.specs.Str.{bytes_eq}
-use Rattle.stride_isa.specs.Instructions.{spelling}
+use Rattle.stride_isa.specs.Instructions.{class, kind_named, op_with}
+use Rattle.stride_isa.specs.Limits.{array_limit, local_count}
 use Rattle.stride_isa.specs.Names.{is_name}
 use Rattle.stride_isa.specs.declared.op.Op.{Op}
-use Rattle.stride_isa.specs.declared.op.Op.TheVariants as ops
 use Rattle.stride_isa.specs.declared.op.OpKind.{OpKind}
-use Rattle.stride_isa.specs.declared.op.OpKind.TheVariants as kinds
+use Rattle.stride_isa.specs.declared.operand.OperandClass.{OperandClass}
+use Rattle.stride_isa.specs.declared.operand.OperandClass.TheVariants as classes
 use Rattle.assembler.specs.Numbers.{number}
 use Rattle.assembler.specs.declared.keyword.Keyword.{Keyword}
 use Rattle.assembler.specs.declared.keyword.Keyword.TheVariants as keywords
@@ -24,24 +25,12 @@ pub data Form : Type 0 where
   MonitorLine : List ℕ → Form
   ThreadLine : Form
   LabelLine : List ℕ → Form
-  -- an instruction that names nothing
+  -- an instruction whose operand is a number, or that has none
   WholeLine : Option Op → Form
-  -- an instruction that names a label
-  JumpLine : OpKind → List ℕ → Form
-  -- an instruction that names a variable or an array
-  AccessLine : OpKind → List ℕ → Form
-  -- an instruction that names a monitor
-  TurnLine : OpKind → List ℕ → Form
+  -- an instruction whose operand has a name: a label, a variable, an array or a monitor
+  NamingLine : OpKind → List ℕ → Form
   -- none of the forms
   Malformed : Form
-
--- all instructions, in the order of the table
-abbrev pub all_kinds : List OpKind
-all_kinds = kinds.Push ∷ kinds.Dup ∷ kinds.Drop ∷ kinds.Swap ∷ kinds.Over ∷ kinds.Add ∷ kinds.Sub ∷ kinds.Mul ∷ kinds.Div ∷ kinds.Rem ∷ kinds.And ∷ kinds.Or ∷ kinds.Xor ∷ kinds.Shl ∷ kinds.Shr ∷ kinds.Eq ∷ kinds.Lt ∷ kinds.Not ∷ kinds.Get ∷ kinds.Set ∷ kinds.Jump ∷ kinds.Jz ∷ kinds.Jnz ∷ kinds.Read ∷ kinds.Write ∷ kinds.ReadAt ∷ kinds.WriteAt ∷ kinds.Enter ∷ kinds.Exit ∷ kinds.Print ∷ kinds.Halt ∷ []
-
--- the instruction of this name
-abbrev pub kind_named : List ℕ → Option OpKind
-kind_named word = find (λ kind. bytes_eq (spelling kind) word) all_kinds
 
 -- the keyword of an instruction, where there is one of the name
 abbrev pub keyword_of_kind : Option OpKind → Keyword
@@ -86,9 +75,9 @@ word_number word = number (2 ^ 64) word
 abbrev pub above_zero : ℕ → Option ℕ
 above_zero value = if nat_le 1 value then Some value else None
 
--- a size of an array, 1 to 256
+-- a size that an array may have
 abbrev pub size_number : List ℕ → Option ℕ
-size_number word = option_and_then above_zero (number 257 word)
+size_number word = option_and_then above_zero (number (array_limit + 1) word)
 
 -- the declaration of a variable, by the words behind `var`
 abbrev pub var_form : Following → Form
@@ -102,53 +91,34 @@ array_form (TwoWords name size) = named (λ n. ArrayLine n (size_number size) (S
 array_form (ThreeWords name size start) = named (λ n. ArrayLine n (size_number size) (word_number start)) name
 array_form words = Malformed
 
+-- the only word behind the first of a line, where it is a name
+abbrev pub only_name : Following → Option (List ℕ)
+only_name (OneWord word) = if is_name word then Some word else None
+only_name words = None
+
+-- a line by its name, where there is one
+abbrev pub line_named : (List ℕ → Form) → Option (List ℕ) → Form
+line_named line (Some name) = line name
+line_named line None = Malformed
+
 -- a line that has one name behind its first word
 abbrev pub name_form : (List ℕ → Form) → Following → Form
-name_form line (OneWord name) = named line name
-name_form line words = Malformed
+name_form line words = line_named line (only_name words)
 
 -- an instruction that has one number below the limit behind its name
-abbrev pub number_form : (ℕ → Op) → ℕ → Following → Form
-number_form op limit (OneWord word) = WholeLine (option_map op (number limit word))
-number_form op limit words = Malformed
+abbrev pub number_form : OpKind → ℕ → Following → Form
+number_form kind limit (OneWord word) = WholeLine (option_map (op_with kind) (number limit word))
+number_form kind limit words = Malformed
 
--- the instruction of a kind that has no operand
-abbrev pub plain_op : OpKind → Op
-plain_op kinds.Dup = ops.Dup
-plain_op kinds.Drop = ops.Drop
-plain_op kinds.Swap = ops.Swap
-plain_op kinds.Over = ops.Over
-plain_op kinds.Add = ops.Add
-plain_op kinds.Sub = ops.Sub
-plain_op kinds.Mul = ops.Mul
-plain_op kinds.Div = ops.Div
-plain_op kinds.Rem = ops.Rem
-plain_op kinds.And = ops.And
-plain_op kinds.Or = ops.Or
-plain_op kinds.Xor = ops.Xor
-plain_op kinds.Shl = ops.Shl
-plain_op kinds.Shr = ops.Shr
-plain_op kinds.Eq = ops.Eq
-plain_op kinds.Lt = ops.Lt
-plain_op kinds.Not = ops.Not
-plain_op kinds.Print = ops.Print
-plain_op kind = ops.Halt
-
--- an instruction, by the words behind its name
-abbrev pub op_form : OpKind → Following → Form
-op_form kinds.Push words = number_form (λ n. ops.Push n) (2 ^ 64) words
-op_form kinds.Get words = number_form (λ n. ops.Get n) 16 words
-op_form kinds.Set words = number_form (λ n. ops.Set n) 16 words
-op_form kinds.Jump words = name_form (JumpLine kinds.Jump) words
-op_form kinds.Jz words = name_form (JumpLine kinds.Jz) words
-op_form kinds.Jnz words = name_form (JumpLine kinds.Jnz) words
-op_form kinds.Read words = name_form (AccessLine kinds.Read) words
-op_form kinds.Write words = name_form (AccessLine kinds.Write) words
-op_form kinds.ReadAt words = name_form (AccessLine kinds.ReadAt) words
-op_form kinds.WriteAt words = name_form (AccessLine kinds.WriteAt) words
-op_form kinds.Enter words = name_form (TurnLine kinds.Enter) words
-op_form kinds.Exit words = name_form (TurnLine kinds.Exit) words
-op_form kind words = alone (WholeLine (Some (plain_op kind))) words
+-- an instruction, by the class of its operand and the words behind its name
+abbrev pub operand_form : OperandClass → OpKind → Following → Form
+operand_form classes.Nothing kind words = alone (WholeLine (Some (op_with kind 0))) words
+operand_form classes.Number kind words = number_form kind (2 ^ 64) words
+operand_form classes.Local kind words = number_form kind local_count words
+operand_form classes.Label kind words = name_form (NamingLine kind) words
+operand_form classes.Variable kind words = name_form (NamingLine kind) words
+operand_form classes.Array kind words = name_form (NamingLine kind) words
+operand_form classes.Monitor kind words = name_form (NamingLine kind) words
 
 -- a label, by its word: a name and a colon
 abbrev pub label_form : List ℕ → Form
@@ -161,7 +131,7 @@ form_by keywords.Var word words = var_form words
 form_by keywords.Array word words = array_form words
 form_by keywords.Monitor word words = name_form MonitorLine words
 form_by keywords.Thread word words = alone ThreadLine words
-form_by (keywords.Instruction kind) word words = op_form kind words
+form_by (keywords.Instruction kind) word words = operand_form (class kind) kind words
 form_by keywords.Other word words = alone (label_form word) words
 
 -- what the words of a line say

@@ -2,7 +2,7 @@
 -- from it on.
 use Rattle.std.specs.Prelude.{ℕ, ◌+◌, ◌||◌, Bool, true, false, if◌then◌else◌, List, [], ◌∷◌, Option, Some, None}
 use Rattle.std.specs.Str.{bytes_eq}
-use Rattle.assembler.specs.Forms.{Form, ThreadLine, LabelLine, WholeLine, JumpLine, AccessLine, TurnLine}
+use Rattle.assembler.specs.Forms.{Form, ThreadLine, LabelLine, WholeLine, NamingLine}
 
 abbrev pub is_thread_line : Form → Bool
 is_thread_line ThreadLine = true
@@ -10,9 +10,7 @@ is_thread_line form = false
 
 abbrev pub is_instruction : Form → Bool
 is_instruction (WholeLine op) = true
-is_instruction (JumpLine kind name) = true
-is_instruction (AccessLine kind name) = true
-is_instruction (TurnLine kind name) = true
+is_instruction (NamingLine kind name) = true
 is_instruction form = false
 
 -- whether the line is the label of this name

@@ -2,14 +2,15 @@
 use Rattle.std.specs.Prelude.{ℕ, ◌+◌, ◌||◌, Bool, true, false, not, nat_lt, nat_le, if◌then◌else◌, List, [], ◌∷◌, length, map, reverse, Option, Some, None, is_none, unwrap_or, Result, Ok, Err}
 use Rattle.std.specs.Option.{option_map}
 use Rattle.std.specs.Str.{bytes_eq}
+use Rattle.stride_isa.specs.Instructions.{class, op_with}
+use Rattle.stride_isa.specs.Limits.{cell_limit, instruction_limit, monitor_limit, thread_limit}
 use Rattle.stride_isa.specs.Listing.{Listing, empty, is_taken, cell_count, instruction_count, with_decl, with_monitor, with_thread, with_op}
 use Rattle.stride_isa.specs.declared.decl.Shape.TheVariants.{Single, Array}
-use Rattle.stride_isa.specs.declared.op.Op.{Op}
 use Rattle.stride_isa.specs.declared.op.Op.TheVariants as ops
-use Rattle.stride_isa.specs.declared.op.OpKind.{OpKind}
-use Rattle.stride_isa.specs.declared.op.OpKind.TheVariants as kinds
+use Rattle.stride_isa.specs.declared.operand.OperandClass.{OperandClass}
+use Rattle.stride_isa.specs.declared.operand.OperandClass.TheVariants as classes
 use Rattle.assembler.specs.Forms.{Form, form_of}
-use Rattle.assembler.specs.Forms.{Blank, VarLine, ArrayLine, MonitorLine, ThreadLine, LabelLine, WholeLine, JumpLine, AccessLine, TurnLine, Malformed}
+use Rattle.assembler.specs.Forms.{Blank, VarLine, ArrayLine, MonitorLine, ThreadLine, LabelLine, WholeLine, NamingLine, Malformed}
 use Rattle.assembler.specs.Labels.{Labels, labels_at, is_instruction}
 use Rattle.assembler.specs.Lines.{lines}
 use Rattle.assembler.specs.Words.{words_of}
@@ -28,6 +29,16 @@ find_decl name p = find_name name (map (λ d. d.name) p.decls)
 -- the position of the monitor of this name
 abbrev pub find_monitor : List ℕ → Listing → Option ℕ
 find_monitor name p = find_name name p.monitors
+
+-- the position of what has this name, for an operand of the class; an operand that is no name has none
+abbrev pub find_named : OperandClass → Labels → Listing → List ℕ → Option ℕ
+find_named classes.Nothing labels p name = None
+find_named classes.Number labels p name = None
+find_named classes.Local labels p name = None
+find_named classes.Label labels p name = labels.place name
+find_named classes.Variable labels p name = find_decl name p
+find_named classes.Array labels p name = find_decl name p
+find_named classes.Monitor labels p name = find_monitor name p
 
 -- whether a thread has begun
 abbrev pub has_thread : Listing → Bool
@@ -53,9 +64,7 @@ is_bad_number form = false
 
 -- the line names what is not there
 abbrev pub is_unknown : Labels → Listing → Form → Bool
-is_unknown labels p (JumpLine kind name) = is_none (labels.place name)
-is_unknown labels p (AccessLine kind name) = is_none (find_decl name p)
-is_unknown labels p (TurnLine kind name) = is_none (find_monitor name p)
+is_unknown labels p (NamingLine kind name) = is_none (find_named (class kind) labels p name)
 is_unknown labels p form = false
 
 -- the line declares a name that is declared, or is a label that stands on an earlier line of the thread
@@ -68,33 +77,20 @@ is_twice labels p form = false
 
 -- whether a program with so many more cells has more than it may have
 abbrev pub overfills : Listing → ℕ → Bool
-overfills p size = nat_lt 256 (cell_count p.decls + size)
+overfills p size = nat_lt cell_limit (cell_count p.decls + size)
 
 -- the line is one more than a program may have: of cells, monitors, threads or instructions
 abbrev pub is_too_many : Listing → Form → Bool
 is_too_many p (VarLine name start) = overfills p 1
 is_too_many p (ArrayLine name size start) = overfills p (unwrap_or size 0)
-is_too_many p (MonitorLine name) = nat_le 64 (length p.monitors)
-is_too_many p ThreadLine = nat_le 16 (length p.threads)
-is_too_many p form = if is_instruction form then nat_le 65536 (instruction_count p.threads) else false
+is_too_many p (MonitorLine name) = nat_le monitor_limit (length p.monitors)
+is_too_many p ThreadLine = nat_le thread_limit (length p.threads)
+is_too_many p form = if is_instruction form then nat_le instruction_limit (instruction_count p.threads) else false
 
 -- what is wrong with the line: the first kind in this order, or nothing
 abbrev pub refusal : Labels → Listing → Form → Option AsmKind
 refusal labels p form =
     if is_bad_line p form then Some BadLine else (if is_bad_number form then Some BadNumber else (if is_unknown labels p form then Some UnknownName else (if is_twice labels p form then Some Twice else (if is_too_many p form then Some TooMany else None))))
-
--- the instruction of this kind that names what stands at a position
-abbrev pub naming : OpKind → ℕ → Op
-naming kinds.Jump at = ops.Jump at
-naming kinds.Jz at = ops.Jz at
-naming kinds.Jnz at = ops.Jnz at
-naming kinds.Read at = ops.Read at
-naming kinds.Write at = ops.Write at
-naming kinds.ReadAt at = ops.ReadAt at
-naming kinds.WriteAt at = ops.WriteAt at
-naming kinds.Enter at = ops.Enter at
-naming kinds.Exit at = ops.Exit at
-naming kind at = ops.Halt
 
 -- the program with what the line adds to it
 abbrev pub added : Labels → Listing → Form → Listing
@@ -103,9 +99,7 @@ added labels p (ArrayLine name size start) = with_decl p (record { name = name; 
 added labels p (MonitorLine name) = with_monitor p name
 added labels p ThreadLine = with_thread p
 added labels p (WholeLine op) = with_op p (unwrap_or op ops.Halt)
-added labels p (JumpLine kind name) = with_op p (naming kind (unwrap_or (labels.place name) 0))
-added labels p (AccessLine kind name) = with_op p (naming kind (unwrap_or (find_decl name p) 0))
-added labels p (TurnLine kind name) = with_op p (naming kind (unwrap_or (find_monitor name p) 0))
+added labels p (NamingLine kind name) = with_op p (op_with kind (unwrap_or (find_named (class kind) labels p name) 0))
 added labels p form = p
 
 -- the program of the lines before a place, the last of which stands first, where these lines stand from it on

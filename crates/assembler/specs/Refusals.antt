@@ -1,5 +1,6 @@
 -- What the steps of reading refuse, seen beside what is wrong with a line.
 use Rattle.std.specs.Prelude.{◌≡◌, ℕ, Bool, false, nat_le, Option, Some, None, is_none, Result, Ok, Err, if◌then◌else◌}
+use Rattle.stride_isa.specs.Limits.{instruction_limit}
 use Rattle.stride_isa.specs.Listing.{Listing, instruction_count}
 use Rattle.stride_isa.specs.declared.program.AddError.{AddError}
 use Rattle.stride_isa.specs.declared.program.AddError.TheVariants as additions
@@ -40,7 +41,7 @@ no_labels = record { place = λ name. None; stands = λ name. false }
 -- what is wrong with an instruction that names what has this position
 abbrev pub wrong_naming : Listing → Option ℕ → Option AsmKind
 wrong_naming p position =
-    if has_thread p then (if is_none position then Some UnknownName else wrong_by false (nat_le 65536 (instruction_count p.threads))) else Some BadLine
+    if has_thread p then (if is_none position then Some UnknownName else wrong_by false (nat_le instruction_limit (instruction_count p.threads))) else Some BadLine
 
 -- what is wrong with a label, where it may stand on an earlier line of the thread
 abbrev pub wrong_label : Listing → Bool → Option AsmKind

@@ -1,8 +1,9 @@
 -- What the assembler's own types stand for.
 use Rattle.std.specs.Prelude.{◌≡◌, ◌≤◌, ◌||◌, ℕ, List, [], true, if◌then◌else◌, IfSome, is_some}
+use Rattle.stride_isa.specs.Limits.{array_limit}
 use Rattle.stride_isa.specs.Names.{is_name}
 use Rattle.assembler.specs.Forms.{Form, Following, NoWord, OneWord, TwoWords, ThreeWords, MoreWords}
-use Rattle.assembler.specs.Forms.{Blank, VarLine, ArrayLine, MonitorLine, ThreadLine, LabelLine, WholeLine, JumpLine, AccessLine, TurnLine, Malformed}
+use Rattle.assembler.specs.Forms.{Blank, VarLine, ArrayLine, MonitorLine, ThreadLine, LabelLine, WholeLine, NamingLine, Malformed}
 use Rattle.assembler.specs.Labels.{Labels, bears, is_thread_line, labels_at}
 use Rattle.assembler.specs.Naming.{position_of}
 use Rattle.assembler.specs.Programs.{find_decl, find_monitor, has_thread}
@@ -30,15 +31,13 @@ form (line.Monitor name) = MonitorLine name.now
 form line.Thread = ThreadLine
 form (line.Label name) = LabelLine name.now
 form (line.Whole op) = WholeLine op
-form (line.Jump kind name) = JumpLine kind name.now
-form (line.Access kind name) = AccessLine kind name.now
-form (line.Turn kind name) = TurnLine kind name.now
+form (line.Naming kind name) = NamingLine kind name.now
 form line.Malformed = Malformed
 
 -- what a line declares has a name, and an array that has a size has one that it may have
 abbrev pub IsWellDeclared : Form → Type 0
 IsWellDeclared (VarLine name start) = is_name name ≡ true
-IsWellDeclared (ArrayLine name size start) = (is_name name ≡ true) × IfSome size (λ s. 1 ≤ s) × IfSome size (λ s. s ≤ 256)
+IsWellDeclared (ArrayLine name size start) = (is_name name ≡ true) × IfSome size (λ s. 1 ≤ s) × IfSome size (λ s. s ≤ array_limit)
 IsWellDeclared (MonitorLine name) = is_name name ≡ true
 IsWellDeclared form = Unit {0}
 

@@ -1,10 +1,12 @@
 //! `Assembly`: a program while its lines are read.
-ghost use Rattle.std.specs.Prelude.{◌≡◌, true, false, unwrap_or, nat_le, OnOk};
+ghost use Rattle.std.specs.Prelude.{◌≡◌, true, false, unwrap_or, nat_le, IfSome, OnOk};
+ghost use Rattle.stride_isa.specs.Instructions.{class, op_with};
+ghost use Rattle.stride_isa.specs.Limits.{instruction_limit};
 ghost use Rattle.stride_isa.specs.Listing.{empty, is_taken, cells_of, instruction_count, with_decl, with_op};
 ghost use Rattle.stride_isa.specs.Names.{is_name};
-ghost use Rattle.stride_isa.specs.WellFormed.{HasSize};
+ghost use Rattle.stride_isa.specs.WellFormed.{FitsClass, HasSize};
 ghost use Rattle.assembler.specs.Forms.{VarLine, ArrayLine, MonitorLine, ThreadLine, WholeLine};
-ghost use Rattle.assembler.specs.Programs.{added, has_thread, naming as naming_op, overfills, refusal};
+ghost use Rattle.assembler.specs.Programs.{added, find_named, has_thread, overfills, refusal};
 ghost use Rattle.assembler.specs.Refusals.{Refuses, no_labels, wrong_by, wrong_label, wrong_naming};
 ghost use Rattle.assembler.specs.Seen.{form, labels_seen, IsInStep, IsWellDeclared};
 
@@ -14,25 +16,7 @@ use crate::names::Names;
 use crate::refusal::Refusal;
 use crate::thread_labels::ThreadLabels;
 use std::alloc::Global;
-use stride_isa::{Decl, Name, Op, OpKind, Program, Shape};
-
-// The instruction of this kind that names what stands at a position.
-fn naming(kind: OpKind, at: u32) -> Op
-    ensures { result ≡ naming_op kind at }
-{
-    match kind {
-        OpKind::Jump => Op::Jump(at),
-        OpKind::Jz => Op::Jz(at),
-        OpKind::Jnz => Op::Jnz(at),
-        OpKind::Read => Op::Read(at),
-        OpKind::Write => Op::Write(at),
-        OpKind::ReadAt => Op::ReadAt(at),
-        OpKind::WriteAt => Op::WriteAt(at),
-        OpKind::Enter => Op::Enter(at),
-        OpKind::Exit => Op::Exit(at),
-        _ => Op::Halt,
-    }
-}
+use stride_isa::{Decl, Name, Op, OpKind, OperandClass, Program, Shape, class_of, op_with};
 
 /// A program as far as its lines were read. Contracts judge a line that looks at no label by `no_labels`.
 #[derive(Drop)]
@@ -158,7 +142,7 @@ impl<'a> Assembly<'a> {
     fn add_op(&mut self, op: Op) -> Result<(), Refusal>
         requires step { IsInStep self.old }
         requires begun { has_thread self.old.program ≡ true }
-        ensures refused { Refuses (wrong_by false (nat_le 65536 (instruction_count self.old.program.threads))) result }
+        ensures refused { Refuses (wrong_by false (nat_le instruction_limit (instruction_count self.old.program.threads))) result }
         ensures added { OnOk result (self.new.program ≡ with_op self.old.program op) }
         ensures step { OnOk result (IsInStep self.new) }
     {
@@ -181,11 +165,26 @@ impl<'a> Assembly<'a> {
         self.add_op(op)
     }
 
+    // The position of what has this name, for an operand of the class.
+    fn position(&self, class: OperandClass, labels: &ThreadLabels<'a>, name: &[u8]) -> Option<u32>
+        requires { IsInStep self.now }
+        ensures found { result ≡ find_named class (labels_seen labels.now) self.now.program name.now }
+        ensures fits { IfSome result (FitsClass class) }
+    {
+        match class {
+            OperandClass::Nothing | OperandClass::Number | OperandClass::Local => None,
+            OperandClass::Label => labels.place(name),
+            OperandClass::Variable | OperandClass::Array => self.decls.position(name),
+            OperandClass::Monitor => self.monitors.position(name),
+        }
+    }
+
     // Adds the instruction of this kind that names what stands at the position, where its name has one.
     fn add_naming(&mut self, kind: OpKind, position: Option<u32>) -> Result<(), Refusal>
         requires step { IsInStep self.old }
+        requires fits { IfSome position (FitsClass (class kind)) }
         ensures refused { Refuses (wrong_naming self.old.program position) result }
-        ensures added { OnOk result (self.new.program ≡ with_op self.old.program (naming_op kind (unwrap_or position 0))) }
+        ensures added { OnOk result (self.new.program ≡ with_op self.old.program (op_with kind (unwrap_or position 0))) }
         ensures step { OnOk result (IsInStep self.new) }
     {
         if !self.begun {
@@ -194,7 +193,7 @@ impl<'a> Assembly<'a> {
         let Some(at) = position else {
             return Err(Refusal::Bad(AsmKind::UnknownName));
         };
-        self.add_op(naming(kind, at))
+        self.add_op(op_with(kind, u64::from(at)))
     }
 
     // A label adds nothing to the program.
@@ -227,13 +226,8 @@ impl<'a> Assembly<'a> {
             Line::Thread => self.add_thread(),
             Line::Label(name) => self.pass_label(labels.is_passed(name)),
             Line::Whole(op) => self.add_whole(op),
-            Line::Jump(kind, name) => self.add_naming(kind, labels.place(name)),
-            Line::Access(kind, name) => {
-                let position = self.decls.position(name);
-                self.add_naming(kind, position)
-            }
-            Line::Turn(kind, name) => {
-                let position = self.monitors.position(name);
+            Line::Naming(kind, name) => {
+                let position = self.position(class_of(kind), labels, name);
                 self.add_naming(kind, position)
             }
             Line::Malformed => Err(Refusal::Bad(AsmKind::BadLine)),

@@ -1,9 +1,11 @@
 //! `Line`: what a line of a program's text says by itself.
-ghost use Rattle.std.specs.Prelude.{◌≡◌, ◌<◌, length};
+ghost use Rattle.std.specs.Prelude.{◌≡◌, ◌+◌, ◌<◌, ◌≤◌, ℕ, length};
+ghost use Rattle.std.specs.Option.{option_map};
+ghost use Rattle.stride_isa.specs.Instructions.{class};
 ghost use Rattle.stride_isa.specs.Names.{is_name as is_name_word};
-ghost use Rattle.assembler.specs.Forms.{VarLine, ArrayLine, MonitorLine, JumpLine, AccessLine, TurnLine};
-ghost use Rattle.assembler.specs.Forms.{plain_op as plain_op_of, named, size_number, var_form, array_form, op_form, name_form, label_form, form_of, alone as alone_form};
-ghost use Rattle.assembler.specs.Numbers.{number};
+ghost use Rattle.stride_isa.specs.WellFormed.{FitsClass};
+ghost use Rattle.assembler.specs.Forms.{VarLine, ArrayLine, MonitorLine, NamingLine};
+ghost use Rattle.assembler.specs.Forms.{named, size_number, var_form, array_form, operand_form, number_form, name_form, only_name as only_name_of, label_form, form_of, alone as alone_form};
 ghost use Rattle.assembler.specs.Seen.{form, words_seen};
 ghost use Rattle.assembler.specs.Words.{words_of};
 
@@ -11,7 +13,8 @@ use crate::keyword::{Keyword, keyword_at};
 use crate::numbers::number_up_to;
 use crate::operands::Operands;
 use crate::words::{before_comment, take_word};
-use stride_isa::{Name, Op, OpKind, instructions};
+use stride_isa::limits::{ARRAY_LIMIT, LOCAL_COUNT};
+use stride_isa::{Name, Op, OpKind, OperandClass, class_of, op_with};
 
 /// What a line says. Names are as they stand in the text; `None` stands where a number is wanted and the word is no number
 /// of the range.
@@ -31,14 +34,10 @@ pub(crate) enum Line<'a> {
     Monitor(&'a [u8]),
     Thread,
     Label(&'a [u8]),
-    /// An instruction that names nothing.
+    /// An instruction whose operand is a number, or that has none.
     Whole(Option<Op>),
-    /// An instruction that names a label.
-    Jump(OpKind, &'a [u8]),
-    /// An instruction that names a variable or an array.
-    Access(OpKind, &'a [u8]),
-    /// An instruction that names a monitor.
-    Turn(OpKind, &'a [u8]),
+    /// An instruction whose operand has a name.
+    Naming(OpKind, &'a [u8]),
     /// Of none of the forms.
     Malformed,
 }
@@ -54,20 +53,9 @@ fn is_name(word: &[u8]) -> bool
 fn size_at(word: &[u8]) -> Option<u32>
     ensures { result ≡ size_number word.now }
 {
-    match number_up_to(256, word) {
+    match number_up_to(u64::from(ARRAY_LIMIT), word) {
         Some(0) | None => None,
         Some(size) => Some(size as u32),
-    }
-}
-
-// The number of a local.
-#[tactic(auto, using(crate::proofs::NumberLemmas::number_within))]
-fn local_at(word: &[u8]) -> Option<u8>
-    ensures { result ≡ number 16 word.now }
-{
-    match number_up_to(15, word) {
-        Some(local) => Some(local as u8),
-        None => None,
     }
 }
 
@@ -114,16 +102,17 @@ fn array_line(operands: Operands<'_>) -> Line<'_>
     }
 }
 
-fn monitor_line(operands: Operands<'_>) -> Line<'_>
-    ensures { form result ≡ name_form MonitorLine (words_seen operands.entry) }
+// The only one of the words, where it is a name.
+fn only_name(operands: Operands<'_>) -> Option<&[u8]>
+    ensures { option_map (λ name. name.now) result ≡ only_name_of (words_seen operands.entry) }
 {
-    let Operands::One(name) = operands else {
-        return Line::Malformed;
-    };
-    if is_name(name) {
-        Line::Monitor(name)
-    } else {
-        Line::Malformed
+    match operands {
+        Operands::One(name) if is_name(name) => Some(name),
+        Operands::One(_)
+        | Operands::Nothing
+        | Operands::Two(_, _)
+        | Operands::Three(_, _, _)
+        | Operands::More => None,
     }
 }
 
@@ -154,109 +143,51 @@ fn label_at(word: &[u8]) -> Line<'_>
     }
 }
 
-fn push_line(operands: Operands<'_>) -> Line<'_>
-    ensures { form result ≡ op_form OpKind.Push (words_seen operands.entry) }
+#[tactic(auto, using(crate::proofs::NumberLemmas::number_within))]
+fn number_line(kind: OpKind, last: u64, operands: Operands<'_>) -> Line<'_>
+    requires { (n : ℕ) → n ≤ last → FitsClass (class kind) n }
+    ensures { form result ≡ number_form kind (last + 1) (words_seen operands.entry) }
 {
     match operands {
-        Operands::One(word) => Line::Whole(number_up_to(u64::MAX, word).map(Op::Push)),
-        _ => Line::Malformed,
-    }
-}
-
-fn get_line(operands: Operands<'_>) -> Line<'_>
-    ensures { form result ≡ op_form OpKind.Get (words_seen operands.entry) }
-{
-    match operands {
-        Operands::One(word) => Line::Whole(local_at(word).map(Op::Get)),
-        _ => Line::Malformed,
-    }
-}
-
-fn set_line(operands: Operands<'_>) -> Line<'_>
-    ensures { form result ≡ op_form OpKind.Set (words_seen operands.entry) }
-{
-    match operands {
-        Operands::One(word) => Line::Whole(local_at(word).map(Op::Set)),
-        _ => Line::Malformed,
-    }
-}
-
-fn jump_line(kind: OpKind, operands: Operands<'_>) -> Line<'_>
-    ensures { form result ≡ name_form (JumpLine kind) (words_seen operands.entry) }
-{
-    let Operands::One(name) = operands else {
-        return Line::Malformed;
-    };
-    if is_name(name) {
-        Line::Jump(kind, name)
-    } else {
-        Line::Malformed
-    }
-}
-
-fn access_line(kind: OpKind, operands: Operands<'_>) -> Line<'_>
-    ensures { form result ≡ name_form (AccessLine kind) (words_seen operands.entry) }
-{
-    let Operands::One(name) = operands else {
-        return Line::Malformed;
-    };
-    if is_name(name) {
-        Line::Access(kind, name)
-    } else {
-        Line::Malformed
-    }
-}
-
-fn turn_line(kind: OpKind, operands: Operands<'_>) -> Line<'_>
-    ensures { form result ≡ name_form (TurnLine kind) (words_seen operands.entry) }
-{
-    let Operands::One(name) = operands else {
-        return Line::Malformed;
-    };
-    if is_name(name) {
-        Line::Turn(kind, name)
-    } else {
-        Line::Malformed
-    }
-}
-
-macro_rules! without_operand {
-    ($variant:ident ()) => {
-        Op::$variant
-    };
-    ($variant:ident (_)) => {
-        Op::Halt
-    };
-}
-
-macro_rules! plain_ops {
-    (($kind:ident) $([$variant:ident $operand:tt $name:literal $popped:literal $pushed:literal $class:ident $($how:tt)*])*) => {
-        match $kind {
-            $(OpKind::$variant => without_operand!($variant $operand),)*
+        Operands::One(word) => match number_up_to(last, word) {
+            Some(number) => Line::Whole(Some(op_with(kind, number))),
+            None => Line::Whole(None),
+        },
+        Operands::Nothing | Operands::Two(_, _) | Operands::Three(_, _, _) | Operands::More => {
+            Line::Malformed
         }
-    };
+    }
 }
 
-// The instruction of a kind that has no operand; of any other kind a `halt`, which nobody asks for.
-fn plain_op(kind: OpKind) -> Op
-    ensures { result ≡ plain_op_of kind }
+fn naming_line(kind: OpKind, operands: Operands<'_>) -> Line<'_>
+    ensures { form result ≡ name_form (NamingLine kind) (words_seen operands.entry) }
 {
-    instructions!(plain_ops!(kind))
+    match only_name(operands) {
+        Some(name) => Line::Naming(kind, name),
+        None => Line::Malformed,
+    }
+}
+
+fn monitor_line(operands: Operands<'_>) -> Line<'_>
+    ensures { form result ≡ name_form MonitorLine (words_seen operands.entry) }
+{
+    match only_name(operands) {
+        Some(name) => Line::Monitor(name),
+        None => Line::Malformed,
+    }
 }
 
 fn op_line(kind: OpKind, operands: Operands<'_>) -> Line<'_>
-    ensures { form result ≡ op_form kind (words_seen operands.entry) }
+    ensures { form result ≡ operand_form (class kind) kind (words_seen operands.entry) }
 {
-    match kind {
-        OpKind::Push => push_line(operands),
-        OpKind::Get => get_line(operands),
-        OpKind::Set => set_line(operands),
-        OpKind::Jump | OpKind::Jz | OpKind::Jnz => jump_line(kind, operands),
-        OpKind::Read | OpKind::Write | OpKind::ReadAt | OpKind::WriteAt => {
-            access_line(kind, operands)
-        }
-        OpKind::Enter | OpKind::Exit => turn_line(kind, operands),
-        _ => alone(Line::Whole(Some(plain_op(kind))), operands),
+    match class_of(kind) {
+        OperandClass::Nothing => alone(Line::Whole(Some(op_with(kind, 0))), operands),
+        OperandClass::Number => number_line(kind, u64::MAX, operands),
+        OperandClass::Local => number_line(kind, LOCAL_COUNT as u64 - 1, operands),
+        OperandClass::Label
+        | OperandClass::Variable
+        | OperandClass::Array
+        | OperandClass::Monitor => naming_line(kind, operands),
     }
 }
 

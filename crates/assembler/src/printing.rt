@@ -3,13 +3,15 @@ ghost use Rattle.std.specs.Prelude.{◌≡◌, ◌<◌, ◌∷◌, ◌++◌, len
 ghost use Rattle.std.specs.List.{flat_map};
 ghost use Rattle.assembler.specs.Canonical.{canonical, code_lines, decl_words, label_lines, label_name, line_of, monitor_words, op_words, operand_words, thread_lines};
 ghost use Rattle.assembler.specs.Programs.{spelled};
+ghost use Rattle.stride_isa.specs.Instructions.{operand};
 ghost use Rattle.stride_isa.specs.Listing.{code_of, op_at};
 ghost use Rattle.stride_isa.specs.Validity.{Names};
 
 use crate::targets::targets_of;
+use itoa::Buffer;
 use std::alloc::Global;
 use stride_base::{List, NoMemory};
-use stride_isa::{Checked, Decl, Name, Op, Shape, kind_of, name_of};
+use stride_isa::{Checked, Decl, Name, Op, Operand, Shape, kind_of, name_of, operand_of};
 
 // A word behind others of its line.
 fn put_word(text: &mut List<u8>, word: &[u8]) -> Result<(), NoMemory>
@@ -19,65 +21,59 @@ fn put_word(text: &mut List<u8>, word: &[u8]) -> Result<(), NoMemory>
     text.push_all(word)
 }
 
-fn put_digits(alloc: Global, text: &mut List<u8>, number: u64) -> Result<(), NoMemory>
+fn put_digits(text: &mut List<u8>, number: u64) -> Result<(), NoMemory>
     ensures { OnOk result (text.new.items ≡ text.old.items ++ decimal number) }
 {
-    let digits = number.to_string(alloc)?;
-    text.push_all(digits.as_bytes())
+    let mut digits = Buffer::new();
+    text.push_all(digits.format(number).as_bytes())
 }
 
-fn put_number(alloc: Global, text: &mut List<u8>, number: u64) -> Result<(), NoMemory>
+fn put_number(text: &mut List<u8>, number: u64) -> Result<(), NoMemory>
     ensures { OnOk result (text.new.items ≡ text.old.items ++ 32 ∷ decimal number) }
 {
     text.push(b' ')?;
-    put_digits(alloc, text, number)
+    put_digits(text, number)
 }
 
-fn put_label(alloc: Global, text: &mut List<u8>, at: u32) -> Result<(), NoMemory>
+fn put_label(text: &mut List<u8>, at: u32) -> Result<(), NoMemory>
     ensures { OnOk result (text.new.items ≡ text.old.items ++ label_name at) }
 {
     text.push(b'L')?;
-    put_digits(alloc, text, u64::from(at))
+    put_digits(text, u64::from(at))
 }
 
-fn put_target(alloc: Global, text: &mut List<u8>, at: u32) -> Result<(), NoMemory>
+fn put_target(text: &mut List<u8>, at: u32) -> Result<(), NoMemory>
     ensures { OnOk result (text.new.items ≡ text.old.items ++ 32 ∷ label_name at) }
 {
     text.push(b' ')?;
-    put_label(alloc, text, at)
+    put_label(text, at)
 }
 
-fn put_var(alloc: Global, text: &mut List<u8>, name: &Name, start: u64) -> Result<(), NoMemory>
+fn put_var(text: &mut List<u8>, name: &Name, start: u64) -> Result<(), NoMemory>
     ensures { OnOk result (text.new.items ≡ text.old.items ++ line_of (decl_words name.now Shape.Single start)) }
 {
     text.push_all(b"var")?;
     put_word(text, name.as_slice())?;
-    put_number(alloc, text, start)?;
+    put_number(text, start)?;
     text.push(b'\n')
 }
 
-fn put_array(
-    alloc: Global,
-    text: &mut List<u8>,
-    name: &Name,
-    size: u32,
-    start: u64,
-) -> Result<(), NoMemory>
+fn put_array(text: &mut List<u8>, name: &Name, size: u32, start: u64) -> Result<(), NoMemory>
     ensures { OnOk result (text.new.items ≡ text.old.items ++ line_of (decl_words name.now (Shape.Array size) start)) }
 {
     text.push_all(b"array")?;
     put_word(text, name.as_slice())?;
-    put_number(alloc, text, u64::from(size))?;
-    put_number(alloc, text, start)?;
+    put_number(text, u64::from(size))?;
+    put_number(text, start)?;
     text.push(b'\n')
 }
 
-fn put_decl(alloc: Global, text: &mut List<u8>, decl: &Decl) -> Result<(), NoMemory>
+fn put_decl(text: &mut List<u8>, decl: &Decl) -> Result<(), NoMemory>
     ensures { OnOk result (text.new.items ≡ text.old.items ++ line_of (decl_words decl.now.name decl.now.shape decl.now.start)) }
 {
     match decl.shape {
-        Shape::Single => put_var(alloc, text, &decl.name, decl.start),
-        Shape::Array(size) => put_array(alloc, text, &decl.name, size, decl.start),
+        Shape::Single => put_var(text, &decl.name, decl.start),
+        Shape::Array(size) => put_array(text, &decl.name, size, decl.start),
     }
 }
 
@@ -89,52 +85,39 @@ fn put_monitor(text: &mut List<u8>, name: &Name) -> Result<(), NoMemory>
     text.push(b'\n')
 }
 
-fn put_operand(
-    alloc: Global,
-    text: &mut List<u8>,
-    program: &Checked,
-    op: Op,
-) -> Result<(), NoMemory>
+fn put_operand(text: &mut List<u8>, program: &Checked, op: Op) -> Result<(), NoMemory>
     requires { Names program.now op }
-    ensures { OnOk result (text.new.items ≡ text.old.items ++ flat_map (λ word. 32 ∷ word) (operand_words program.now op)) }
+    ensures { OnOk result (text.new.items ≡ text.old.items ++ flat_map (λ word. 32 ∷ word) (operand_words program.now (operand op))) }
 {
-    match op {
-        Op::Push(word) => put_number(alloc, text, word),
-        Op::Get(local) | Op::Set(local) => put_number(alloc, text, u64::from(local)),
-        Op::Jump(target) | Op::Jz(target) | Op::Jnz(target) => put_target(alloc, text, target),
-        Op::Read(decl) | Op::Write(decl) | Op::ReadAt(decl) | Op::WriteAt(decl) => {
+    match operand_of(op) {
+        Operand::Nothing => Ok(()),
+        Operand::Number(word) => put_number(text, word),
+        Operand::Local(local) => put_number(text, u64::from(local)),
+        Operand::Label(target) => put_target(text, target),
+        Operand::Variable(decl) | Operand::Array(decl) => {
             put_word(text, program.decl(decl).name.as_slice())
         }
-        Op::Enter(monitor) | Op::Exit(monitor) => put_word(
-            text,
-            program.monitor(monitor).as_slice(),
-        ),
-        _ => Ok(()),
+        Operand::Monitor(monitor) => put_word(text, program.monitor(monitor).as_slice()),
     }
 }
 
-fn put_op(alloc: Global, text: &mut List<u8>, program: &Checked, op: Op) -> Result<(), NoMemory>
+fn put_op(text: &mut List<u8>, program: &Checked, op: Op) -> Result<(), NoMemory>
     requires { Names program.now op }
     ensures { OnOk result (text.new.items ≡ text.old.items ++ line_of (op_words program.now op)) }
 {
     text.push_all(name_of(kind_of(op)).as_bytes())?;
-    put_operand(alloc, text, program, op)?;
+    put_operand(text, program, op)?;
     text.push(b'\n')
 }
 
 // The line of the label at a position, if a jump leads there.
-fn put_label_line(
-    alloc: Global,
-    text: &mut List<u8>,
-    targeted: bool,
-    at: u32,
-) -> Result<(), NoMemory>
+fn put_label_line(text: &mut List<u8>, targeted: bool, at: u32) -> Result<(), NoMemory>
     ensures { OnOk result (text.new.items ≡ text.old.items ++ flat_map line_of (label_lines targeted at)) }
 {
     if !targeted {
         return Ok(());
     }
-    put_label(alloc, text, at)?;
+    put_label(text, at)?;
     text.push_all(b":\n")
 }
 
@@ -145,7 +128,7 @@ fn op_in(program: &Checked, thread: u32, at: u32) -> Op
     ensures is { result ≡ op_at program.now thread at }
     ensures names { Names program.now result }
 {
-    program.is_sound();
+    program.facts();
     program.op(thread, at)
 }
 
@@ -160,17 +143,17 @@ fn put_code(
 {
     let targets = targets_of(alloc, program, thread)?;
     for at in 0..program.code_len(thread) {
-        put_label_line(alloc, text, targets[at as usize], at)?;
-        put_op(alloc, text, program, op_in(program, thread, at))?;
+        put_label_line(text, targets[at as usize], at)?;
+        put_op(text, program, op_in(program, thread, at))?;
     }
     Ok(())
 }
 
-fn put_decls(alloc: Global, text: &mut List<u8>, program: &Checked) -> Result<(), NoMemory>
+fn put_decls(text: &mut List<u8>, program: &Checked) -> Result<(), NoMemory>
     ensures { OnOk result (text.new.items ≡ text.old.items ++ flat_map (λ d. line_of (decl_words d.name d.shape d.start)) program.now.decls) }
 {
     for at in 0..program.decls() {
-        put_decl(alloc, text, program.decl(at))?;
+        put_decl(text, program.decl(at))?;
     }
     Ok(())
 }
@@ -197,11 +180,12 @@ fn put_threads(alloc: Global, text: &mut List<u8>, program: &Checked) -> Result<
 /// The canonical text of a program, which spells the same program.
 pub fn print_program(alloc: Global, program: &Checked) -> Result<List<u8>, NoMemory>
     ensures canonical { IfOk result (λ text. text.items ≡ canonical program.now) }
+    ensures short { IfOk result (λ text. length text.items < 4000000) }
     ensures read_back { IfOk result (λ text. spelled text.items ≡ Ok program.now) }
 {
-    program.is_sound();
+    program.facts();
     let mut text = List::new(alloc);
-    put_decls(alloc, &mut text, program)?;
+    put_decls(&mut text, program)?;
     put_monitors(&mut text, program)?;
     put_threads(alloc, &mut text, program)?;
     Ok(text)

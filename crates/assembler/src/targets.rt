@@ -6,7 +6,7 @@ ghost use Rattle.stride_isa.specs.Listing.{code_of, op_at};
 
 use std::alloc::Global;
 use stride_base::NoMemory;
-use stride_isa::{Checked, Op};
+use stride_isa::{Checked, target_of};
 
 fn no_targets(alloc: Global, count: u32) -> Result<Vec<bool>, NoMemory>
     ensures { IfOk result (λ targets. targets.items ≡ replicate count false) }
@@ -23,8 +23,8 @@ fn mark_target(targets: &mut Vec<bool>, program: &Checked, thread: u32, at: u32)
     ensures places { length targets.new.items ≡ length targets.old.items }
     ensures marked { (k : ℕ) → k < length targets.old.items → slice_index_or targets.new.items k false ≡ (slice_index_or targets.old.items k false || jumps_to k (op_at program.now thread at)) }
 {
-    program.is_sound();
-    if let Op::Jump(target) | Op::Jz(target) | Op::Jnz(target) = program.op(thread, at) {
+    program.facts();
+    if let Some(target) = target_of(program.op(thread, at)) {
         targets[target as usize] = true;
     }
 }

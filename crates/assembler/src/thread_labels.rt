@@ -23,8 +23,14 @@ fn position_behind(line: Line<'_>, position: u32) -> u32
     ensures { result ≡ (if is_instruction (form line.entry) then position + 1 else position) }
 {
     match line {
-        Line::Whole(_) | Line::Jump(_, _) | Line::Access(_, _) | Line::Turn(_, _) => position + 1,
-        _ => position,
+        Line::Whole(_) | Line::Naming(_, _) => position + 1,
+        Line::Blank
+        | Line::Var { .. }
+        | Line::Array { .. }
+        | Line::Monitor(_)
+        | Line::Thread
+        | Line::Label(_)
+        | Line::Malformed => position,
     }
 }
 

@@ -41,6 +41,7 @@ pub use op::{
 pub use operand::{Operand, OperandClass};
 pub use program::{AddError, Program};
 pub use stack::Stack;
+pub use successors::target_of;
 
 #[cfg(test)]
 mod check_tests;
