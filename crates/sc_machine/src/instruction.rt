@@ -10,12 +10,12 @@ ghost use Rattle.sc_machine.specs.Made.{Made, NextNamesCell};
 ghost use Rattle.sc_machine.specs.Operands.{operands};
 
 use crate::end::End;
-use crate::limits::{LOCAL_COUNT, MONITOR_LIMIT, STACK_LIMIT};
 use crate::operands::Top;
 use crate::printing::push_line;
 use crate::stop::Stop;
 use crate::trap::Trap;
 use stride_base::List;
+use stride_isa::limits::{LOCAL_COUNT, MONITOR_LIMIT, STACK_LIMIT};
 use stride_isa::{Change, Checked, Op, instructions};
 
 /// What an instruction came to.

@@ -2,7 +2,7 @@
 ghost use Rattle.std.specs.Prelude.{◌≡◌, ℕ, List, ◌∷◌, ◌<◌, ◌≤◌, [], length, slice_index};
 ghost use Rattle.sc_machine.specs.Operands.{operands};
 
-use crate::limits::STACK_LIMIT;
+use stride_isa::limits::STACK_LIMIT;
 
 /// How many words are on the stack.
 ///

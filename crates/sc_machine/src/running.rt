@@ -6,11 +6,11 @@ ghost use Rattle.sc_machine.specs.ThreadRunInside.{IsRun};
 
 use crate::end::End;
 use crate::instruction::{Next, execute};
-use crate::limits::{LOCAL_COUNT, MONITOR_LIMIT, STACK_LIMIT};
 use crate::operands::Top;
 use crate::stop::Stop;
 use crate::task::Task;
 use stride_base::List;
+use stride_isa::limits::{LOCAL_COUNT, MONITOR_LIMIT, STACK_LIMIT};
 
 /// Where a thread is. The loop keeps it in registers.
 #[derive(Clone, Copy)]

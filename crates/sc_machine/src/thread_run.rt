@@ -6,7 +6,6 @@ ghost use Rattle.sc_machine.specs.declared.end.End.TheVariants.{Stopped};
 
 use crate::end::End;
 use crate::instruction::finish;
-use crate::limits::{LOCAL_COUNT, MONITOR_LIMIT, STACK_LIMIT};
 use crate::operands::Top;
 use crate::running::{Cursor, run_on};
 use crate::stop::Stop;
@@ -14,6 +13,7 @@ use crate::task::Task;
 use std::marker::Model;
 use stride_base::List;
 use stride_isa::Checked;
+use stride_isa::limits::{LOCAL_COUNT, MONITOR_LIMIT, STACK_LIMIT};
 
 /// One thread of a program while it runs. What it prints goes to a list of the caller's.
 ///
