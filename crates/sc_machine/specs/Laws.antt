@@ -1,5 +1,5 @@
 -- What holds of every run of the machine, whatever the program is.
-use Rattle.std.specs.Prelude.{◌≡◌, ℕ, ◌<◌, true, false, List, ◌++◌, length, map, take, slice_index, Some, None}
+use Rattle.std.specs.Prelude.{◌≡◌, ℕ, ◌<◌, true, false, List, ◌++◌, length, map, take, slice_index, Some, None, option_and_then}
 use Rattle.std.specs.List.{flat_map}
 use Rattle.stride_isa.specs.Listing.{Listing, start_of}
 use Rattle.sc_machine.specs.declared.stop.Stop.{Stop}
@@ -15,6 +15,10 @@ TurnsAreSteps = (p : Listing) (fuel : ℕ) (schedule : List ℕ) → run_of p fu
 -- a list is refused at the first member that is not enabled when its turn comes, and at none where each is
 abbrev pub RefusedWhereStuck : Type 0
 RefusedWhereStuck = (p : Listing) (fuel : ℕ) (schedule : List ℕ) → refused_place p fuel schedule ≡ stuck_place p fuel schedule (ready p fuel)
+
+-- the turns of one list after those of another are those of both lists, if the first can be made
+abbrev pub TurnsJoin : Type 0
+TurnsJoin = (p : Listing) (fuel : ℕ) (first rest : List ℕ) (m : Machine) → turns p fuel (first ++ rest) m ≡ option_and_then (turns p fuel rest) (turns p fuel first m)
 
 -- where the turns of all members are made, the list is a schedule, and what they come to is its run
 abbrev pub MadeAlongTurns : Type 0

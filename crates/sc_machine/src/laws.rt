@@ -1,5 +1,5 @@
 //! Laws of the machine, over its definitions alone. Each is the contract of a function that does nothing.
-ghost use Rattle.sc_machine.specs.Laws.{TurnsAreSteps, RefusedWhereStuck, MadeAlongTurns, RefusedAlongTurns, StartsSettle, TurnByStop, SettledStands, SettledPrints, OutputsAreLines};
+ghost use Rattle.sc_machine.specs.Laws.{TurnsAreSteps, RefusedWhereStuck, TurnsJoin, MadeAlongTurns, RefusedAlongTurns, StartsSettle, TurnByStop, SettledStands, SettledPrints, OutputsAreLines};
 
 /// The single steps of a schedule do what its whole turns do, behind the local starts.
 pub fn turns_are_steps()
@@ -9,6 +9,11 @@ pub fn turns_are_steps()
 /// A list is refused at the first member that is not enabled when its turn comes.
 pub fn refused_where_stuck()
     ensures { RefusedWhereStuck }
+{}
+
+/// The turns of two lists, one after the other, are those of both lists together.
+pub fn turns_join()
+    ensures { TurnsJoin }
 {}
 
 /// A schedule's run is found along its turns, and so is the place at which a list is refused.

@@ -23,7 +23,7 @@ mod trap;
 pub use end::End;
 pub use laws::{
     outputs_are_lines, refused_where_stuck, replay_along_turns, settled_prints, settled_stands,
-    starts_settle, turn_by_stop, turns_are_steps,
+    starts_settle, turn_by_stop, turns_are_steps, turns_join,
 };
 pub use standing_thread::StandingThread;
 pub use stop::Stop;

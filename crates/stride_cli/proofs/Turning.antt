@@ -6,9 +6,10 @@ use Rattle.std.proofs.lemmas.Option.{get_or_from_slice_get, slice_get_within}
 use Rattle.std.proofs.lemmas.Bool.Decides.{eqb_tells}
 use Rattle.std.proofs.lemmas.List.{get_or-map, get_or-set_same, get_or-set_other, length-set, length-map, map-set}
 use Rattle.stride_base.specs.Listed.{Listed}
+use Rattle.stride_isa.specs.Changes.{applied}
 use Rattle.stride_isa.specs.Listing.{Listing, cell_count}
 use Rattle.sc_machine.specs.declared.stop.Stop.{Stop}
-use Rattle.sc_machine.specs.declared.stop.Stop.TheVariants.{Read, Write, Enter, Exit, Ended}
+use Rattle.sc_machine.specs.declared.stop.Stop.TheVariants.{Read, Write, Update, Enter, Exit, Ended}
 use Rattle.sc_machine.specs.ThreadStep.{Stands, start_thread, now, settled, answered}
 use Rattle.sc_machine.specs.Laws.{TurnByStop}
 use Rattle.sc_machine.specs.StandingThread.{Standing, IsThreadOf}
@@ -32,6 +33,7 @@ shown_thread table m t d shows lt e =
 word_shown : (table : Table) (m : Machine) (stop : Stop) → Shows table m → NamesCell table.program.now stop → word_in stop table.cells ≡ word_read stop m.cells
 word_shown table m (Read cell) shows named = shows.cells cell named.0
 word_shown table m (Write cell value) shows named = refl
+word_shown table m (Update cell change) shows named = shows.cells cell named.0
 word_shown table m (Enter monitor) shows named = refl
 word_shown table m (Exit monitor) shows named = refl
 word_shown table m (Ended end) shows named = refl
@@ -39,6 +41,7 @@ word_shown table m (Ended end) shows named = refl
 cells_long : (stop : Stop) (cells : List ℕ) → length (cells_in stop cells) ≡ length cells
 cells_long (Read cell) cells = refl
 cells_long (Write cell value) cells = length-set cells cell value
+cells_long (Update cell change) cells = length-set cells cell (applied change (slice_index cells cell))
 cells_long (Enter monitor) cells = refl
 cells_long (Exit monitor) cells = refl
 cells_long (Ended end) cells = refl
@@ -57,6 +60,9 @@ cells_shown : (table : Table) (m : Machine) (stop : Stop) → IsTable table → 
 cells_shown table m (Read at) is shows named cell lt = shows.cells cell lt
 cells_shown table m (Write at value) is shows named cell lt =
     put_shown table.cells m.cells 0 at value (cell_count table.program.now.decls) is.room shows.cells named.0 cell lt
+cells_shown table m (Update at change) is shows named cell lt =
+    ap (λ old. slice_index (set table.cells at (applied change old)) cell) (shows.cells at named.0)
+    ∙ put_shown table.cells m.cells 0 at (applied change (m.cells at)) (cell_count table.program.now.decls) is.room shows.cells named.0 cell lt
 cells_shown table m (Enter monitor) is shows named cell lt = shows.cells cell lt
 cells_shown table m (Exit monitor) is shows named cell lt = shows.cells cell lt
 cells_shown table m (Ended end) is shows named cell lt = shows.cells cell lt
@@ -64,6 +70,7 @@ cells_shown table m (Ended end) is shows named cell lt = shows.cells cell lt
 holders_long : (t : ℕ) (stop : Stop) (holders : List (Option ℕ)) → length (holders_in t stop holders) ≡ length holders
 holders_long t (Read cell) holders = refl
 holders_long t (Write cell value) holders = refl
+holders_long t (Update cell change) holders = refl
 holders_long t (Enter monitor) holders = length-set holders monitor (Some t)
 holders_long t (Exit monitor) holders = length-set holders monitor None
 holders_long t (Ended end) holders = refl
@@ -71,6 +78,7 @@ holders_long t (Ended end) holders = refl
 holders_shown : (table : Table) (m : Machine) (t : ℕ) (stop : Stop) → IsTable table → Shows table m → NamesCell table.program.now stop → (monitor : ℕ) → monitor < 64 → slice_index_or (holders_in t stop table.holders) monitor None ≡ holders_after t stop m.holders monitor
 holders_shown table m t (Read cell) is shows named monitor lt = shows.holders monitor lt
 holders_shown table m t (Write cell value) is shows named monitor lt = shows.holders monitor lt
+holders_shown table m t (Update at change) is shows named monitor lt = shows.holders monitor lt
 holders_shown table m t (Enter at) is shows named monitor lt =
     put_shown table.holders m.holders None at (Some t) 64 (omega (arith, is.monitors)) shows.holders named.1 monitor lt
 holders_shown table m t (Exit at) is shows named monitor lt =
@@ -80,6 +88,7 @@ holders_shown table m t (Ended end) is shows named monitor lt = shows.holders mo
 may_shown : (table : Table) (m : Machine) (t : ℕ) (stop : Stop) → Shows table m → NamesCell table.program.now stop → may_in t stop table.holders ≡ may_pass t stop m.holders
 may_shown table m t (Read cell) shows named = refl
 may_shown table m t (Write cell value) shows named = refl
+may_shown table m t (Update cell change) shows named = refl
 may_shown table m t (Enter monitor) shows named = ap (is_free_for t) (shows.holders monitor named.1)
 may_shown table m t (Exit monitor) shows named = refl
 may_shown table m t (Ended end) shows named = refl

@@ -2,9 +2,10 @@
 -- cite this module.
 use Rattle.std.specs.Prelude.{◌≡◌, ℕ, ◌<◌, ◌≤◌, Bool, true, false, List, length, map, slice_index, slice_set, Option, Some, None}
 use Rattle.std.specs.List.{slice_index_or}
+use Rattle.stride_isa.specs.Changes.{applied}
 use Rattle.stride_isa.specs.Listing.{cell_count}
 use Rattle.sc_machine.specs.declared.stop.Stop.{Stop}
-use Rattle.sc_machine.specs.declared.stop.Stop.TheVariants.{Read, Write, Enter, Exit, Ended}
+use Rattle.sc_machine.specs.declared.stop.Stop.TheVariants.{Read, Write, Update, Enter, Exit, Ended}
 use Rattle.sc_machine.specs.StandingThread.{IsThreadOf}
 use Rattle.sc_machine.specs.Machine.{Machine, is_free_for}
 use Rattle.sc_machine.specs.Transcript.{transcript_bytes}
@@ -16,6 +17,7 @@ use Rattle.stride_cli.specs.Players.{thread_of}
 abbrev pub word_in : Stop → List ℕ → ℕ
 word_in (Read cell) cells = slice_index cells cell
 word_in (Write cell value) cells = 0
+word_in (Update cell change) cells = slice_index cells cell
 word_in (Enter monitor) cells = 0
 word_in (Exit monitor) cells = 0
 word_in (Ended end) cells = 0
@@ -24,6 +26,7 @@ word_in (Ended end) cells = 0
 abbrev pub cells_in : Stop → List ℕ → List ℕ
 cells_in (Read cell) cells = cells
 cells_in (Write cell value) cells = slice_set cells cell value
+cells_in (Update cell change) cells = slice_set cells cell (applied change (slice_index cells cell))
 cells_in (Enter monitor) cells = cells
 cells_in (Exit monitor) cells = cells
 cells_in (Ended end) cells = cells
@@ -32,6 +35,7 @@ cells_in (Ended end) cells = cells
 abbrev pub may_in : ℕ → Stop → List (Option ℕ) → Bool
 may_in t (Read cell) holders = true
 may_in t (Write cell value) holders = true
+may_in t (Update cell change) holders = true
 may_in t (Enter monitor) holders = is_free_for t (slice_index_or holders monitor None)
 may_in t (Exit monitor) holders = true
 may_in t (Ended end) holders = false
@@ -40,6 +44,7 @@ may_in t (Ended end) holders = false
 abbrev pub holders_in : ℕ → Stop → List (Option ℕ) → List (Option ℕ)
 holders_in t (Read cell) holders = holders
 holders_in t (Write cell value) holders = holders
+holders_in t (Update cell change) holders = holders
 holders_in t (Enter monitor) holders = slice_set holders monitor (Some t)
 holders_in t (Exit monitor) holders = slice_set holders monitor None
 holders_in t (Ended end) holders = holders

@@ -30,6 +30,7 @@ pub fn play(table: &mut Table<'_>, schedule: &[u8]) -> Result<(), PlayError>
     ensures { Plays table.old table.new schedule.now result }
 {
     sc_machine::replay_along_turns();
+    sc_machine::turns_join();
     for (place, thread) in schedule.iter().enumerate() {
         match table.turn(*thread) {
             Ok(true) => {}

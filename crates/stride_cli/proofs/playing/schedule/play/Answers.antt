@@ -12,5 +12,5 @@ returns-in-Ok-false c =
 pub loop-place-preserved : goal.loop-place-preserved
 loop-place-preserved c =
     let taken = rw c.in-Ok-true.field-0-test at (c.in-Ok-true.ensures.taken c.loop-place.invariant.machine c.loop-place.invariant.shows) in
-    one_more_played c.args.table.now c.loop-place.table c.turn.new.self c.args.schedule.now c.loop-place.place c.loop-place-test.true c.loop-place.invariant
+    one_more_played c.turns_join.ensures c.args.table.now c.loop-place.table c.turn.new.self c.args.schedule.now c.loop-place.place c.loop-place-test.true c.loop-place.invariant
     c.in-Ok-true.ensures.table.0 c.in-Ok-true.ensures.table.1 taken.0 taken.1
