@@ -1,5 +1,5 @@
 -- An advance of the simulation is one of the run that it shows.
-use Rattle.std.proofs.Common.{◌≡◌, ℕ, ◌+◌, ◌<◌, ◌≤◌, ◌∙◌, ◌*◌, ◌/◌, ◌==◌, inl, inr, Bool, true, false, List, ◌∷◌, length, map, refl, sym, ap, subst, arith, get_or, set, Option, Some, None}
+use Rattle.std.proofs.Common.{◌≡◌, ℕ, ◌+◌, ◌<◌, ◌≤◌, ◌∙◌, ◌*◌, ◌/◌, ◌==◌, inl, inr, Bool, true, false, List, ◌∷◌, length, map, sym, ap, subst, arith, get_or, set, Option, Some, None}
 use Rattle.std.specs.Vec.{with_item}
 use Rattle.std.proofs.lemmas.Bool.Decides.{eqb_tells}
 use Rattle.std.proofs.lemmas.List.{get_or-map, get_or-set_same, get_or-set_other, get_or_default, length-set, map-set}

@@ -111,3 +111,8 @@ begun-run g =
       walked = λ t below. named-walked g t (thread_of (begun g) t) (acts_of g (begun g).steps t) (started t below) (h.named t below);
       odd = λ cell odd. absurd (true≢false (sym (ap is_even (h.even cell)) ∙ odd));
     }
+
+-- nobody has looked at a monitor then
+pub begun-calm : (g : Setting) (t : ℕ) → t < length g.program.threads → (acts_of g (begun g).steps t).looks ≡ None
+unfolding begun
+begun-calm g t below = ((draws_all g 0 (length g.program.threads) [] (omega arith) (none_drawn g)).named t below).calm

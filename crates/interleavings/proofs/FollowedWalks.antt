@@ -1,15 +1,14 @@
 -- A thread that was run again by its log went from event to event, and made at least one instruction for each.
-use Rattle.std.proofs.Common.{◌≡◌, ℕ, zero, suc, ◌+◌, ◌<◌, ◌≤◌, false, List, [], ◌∷◌, Option, None, Result, Ok, length, refl, sym, ◌∙◌, ap, subst, arith}
+use Rattle.std.proofs.Common.{◌≡◌, ℕ, zero, suc, ◌+◌, ◌<◌, ◌≤◌, false, List, [], Option, Ok, length, refl, subst, arith}
 use Rattle.std.specs.Prelude.{slice_get}
 use Rattle.stride_isa.specs.Listing.{Listing, op_at}
 use Rattle.sc_machine.specs.declared.stop.Stop.{Stop}
 use Rattle.sc_machine.specs.declared.stop.Stop.TheVariants as stops
 use Rattle.sc_machine.specs.ThreadStep.{Thread, start_thread, row, settled, stop_of}
 use Rattle.sc_machine.specs.Schedule.{stopped}
-use Rattle.interleavings.specs.declared.event.Event.{Event}
 use Rattle.interleavings.specs.declared.event.LogEntry.{LogEntry}
 use Rattle.interleavings.specs.EventStep.{after_event}
-use Rattle.interleavings.specs.Following.{Met, Makes, Over, Off, Followed, no_turns, met_of, on_met, event_before, place_after, turns_after, follow_from, follow}
+use Rattle.interleavings.specs.Following.{Met, Makes, Over, Off, Followed, no_turns, met_of, on_met, place_after, turns_after, follow_from, follow}
 use Rattle.interleavings.specs.Walking.{is_exit, Walks}
 use Rattle.interleavings.specs.Laws.{IsWalk}
 use Rattle.interleavings.proofs.LogsUsed.{IsWithin, settled-within, after_event-within, makes_open, makes_next, ok, followed_same, no_place, event_followed}

@@ -1,13 +1,11 @@
 -- The loops of the simulation.
 use Rattle.std.proofs.Common.{◌≡◌, ℕ, zero, suc, ◌+◌, ◌-◌, ◌*◌, ◌<◌, ◌≤◌, ◌∙◌, true, false, if◌then◌else◌, List, [], ◌∷◌, ◌++◌, Option, Some, None, length, take, refl, sym, ap, subst, arith, add-one, get_or}
 use Rattle.std.specs.List.{range_with_len}
-use Rattle.std.specs.Option.{option_map}
 use Rattle.std.proofs.lemmas.List.{get_or-take, take_more, length-take}
 use Rattle.std.proofs.Math.Nat.{mul-le-mul_right}
 use Rattle.stride_isa.specs.Listing.{Listing}
 use Rattle.sc_machine.specs.ThreadStep.{stop_of}
 use Rattle.sc_machine.specs.Schedule.{thread_numbers}
-use Rattle.interleavings.specs.declared.kind.Kind.{Kind}
 use Rattle.interleavings.specs.declared.rest.Rest.{Rest}
 use Rattle.interleavings.specs.declared.rest.Rest.TheVariants as rests
 use Rattle.interleavings.specs.declared.simulation.Simulation.{Simulation}

@@ -10,6 +10,7 @@ pub mod Finishes
 pub mod FollowedWalks
 pub mod FollowingExamples
 pub mod FollowsLogs
+pub mod GivingUp
 pub mod Going
 pub mod Happening
 pub mod HeldFlags

@@ -1,9 +1,10 @@
 -- What holds of the runs to which an order leads.
-use Rattle.std.proofs.Common.{◌≡◌, ℕ, zero, suc, ◌+◌, ◌<◌, ◌≤◌, List, [], ◌∷◌, ◌++◌, length, get_or, refl, sym, ◌∙◌, ap, subst, arith}
+use Rattle.std.proofs.Common.{◌≡◌, ℕ, zero, suc, ◌+◌, ◌<◌, ◌≤◌, List, [], ◌∷◌, ◌++◌, None, length, get_or, refl, sym, ◌∙◌, ap, subst, arith}
 use Rattle.std.specs.List.{range_with_len}
 use Rattle.interleavings.specs.declared.rest.Rest.{Rest}
+use Rattle.interleavings.specs.declared.rest.Rest.TheVariants as rests
 use Rattle.interleavings.specs.Recording.{Setting}
-use Rattle.interleavings.specs.Driving.{Drive, advance, advance_all, begun, finished, finished_by_all, stranger}
+use Rattle.interleavings.specs.Driving.{Drive, advance, advance_all, begun, finished, finished_by_all, settle_all, stranger}
 use Rattle.interleavings.specs.SimulationShows.{IsReached}
 use Rattle.interleavings.proofs.Advances.{IsRun, advance_all-run}
 use Rattle.interleavings.proofs.Beginning.{begun-run}
@@ -47,3 +48,13 @@ reached-finished g rest t d below reached = finished-keeps rest g t (IsReached g
 pub reached-all : (g : Setting) (rest : Rest) (i k : ℕ) (d : Drive) → i + k ≤ length g.program.threads → IsReached g d → IsReached g (finished_by_all rest g (range_with_len i k) d)
 reached-all g rest i zero d within reached = reached
 reached-all g rest i (suc k) d within reached = reached-all g rest (i + 1) k (finished rest g i d) (omega arith) (reached-finished g rest i d (omega arith) reached)
+
+-- an order and its settling
+pub reached-settled : (g : Setting) (order : List ℕ) → stranger (length g.program.threads) order ≡ None → IsReached g (settle_all g (advance_all g order (begun g)))
+unfolding settle_all
+reached-settled g order known =
+    let n = length g.program.threads in
+    let whole : 0 + n ≤ n = omega arith in
+    let d : Drive = advance_all g order (begun g) in
+    let written : IsReached g (finished_by_all rests.Write g (range_with_len 0 n) d) = reached-all g rests.Write 0 n d whole (record { order = order; known = known; same = refl }) in
+    reached-all g rests.Exits 0 n (finished_by_all rests.Read g (range_with_len 0 n) (finished_by_all rests.Write g (range_with_len 0 n) d)) whole (reached-all g rests.Read 0 n (finished_by_all rests.Write g (range_with_len 0 n) d) whole written)

@@ -1,8 +1,7 @@
 -- The members of an order that name no thread.
-use Rattle.std.proofs.Common.{◌≡◌, ℕ, zero, suc, ◌+◌, ◌<◌, ◌≤◌, ◌∙◌, true, false, if◌then◌else◌, nat_le, List, [], ◌∷◌, ◌++◌, length, take, get_or, Bool, refl, ap, arith, add-one, Option, Some, None}
+use Rattle.std.proofs.Common.{◌≡◌, ℕ, zero, suc, ◌+◌, ◌<◌, ◌≤◌, ◌∙◌, true, false, if◌then◌else◌, nat_le, List, [], ◌∷◌, ◌++◌, length, get_or, Bool, refl, ap, arith, add-one, Option, Some, None}
 use Rattle.std.specs.Option.{option_map}
 use Rattle.std.proofs.lemmas.Bool.Decides.{nat_tests}
-use Rattle.std.proofs.lemmas.List.{get_or-take, length-take}
 use Rattle.interleavings.specs.Driving.{stranger}
 
 le_true : (a b : ℕ) → a ≤ b → nat_le a b ≡ true
@@ -36,7 +35,7 @@ first_known : (threads t : ℕ) → nat_le threads t ≡ false → t < threads
 first_known threads t e = grind (arith, nat_tests)
 
 -- where the first is no stranger and there is none after it
-known_first : (b : Bool) (threads t : ℕ) (found : Option ℕ) → nat_le threads t ≡ b → (if b then Some 0 else option_map (λ place. place + 1) found) ≡ None → (t < threads) × (found ≡ None)
+pub known_first : (b : Bool) (threads t : ℕ) (found : Option ℕ) → nat_le threads t ≡ b → (if b then Some 0 else option_map (λ place. place + 1) found) ≡ None → (t < threads) × (found ≡ None)
 known_first true threads t found e none = cc
 known_first false threads t found e none = (first_known threads t e, none_after found none)
 
@@ -54,8 +53,3 @@ stranger_more threads (x ∷ order) t none below =
     let first = known_first (nat_le threads x) threads x (stranger threads order) refl none in
     ap (λ b. if b then Some 0 else option_map (λ place. place + 1) (stranger threads (order ++ t ∷ []))) (le_false threads x first.0)
     ∙ ap (option_map (λ place. place + 1)) (stranger_more threads order t first.1 below)
-
--- the first members of an order are known where all are
-pub prefix_known : (threads : ℕ) (order : List ℕ) (i : ℕ) → ((k : ℕ) → k < length order → get_or order k 0 < threads) → stranger threads (take i order) ≡ None
-prefix_known threads order i known = no_stranger threads (take i order) (λ k lt. let inside : (k < i) × (k < length order) = (omega (arith, length-take i order), omega (arith, length-take i order)) in
-    omega (arith, get_or-take i order k 0 inside.0, known k inside.1))

@@ -16,7 +16,7 @@ use Rattle.interleavings.specs.declared.event.Event.{Event}
 use Rattle.interleavings.specs.declared.event.Event.TheVariants as events
 use Rattle.interleavings.specs.declared.event.LogEntry.{LogEntry}
 use Rattle.interleavings.specs.declared.event.LogEntry.TheVariants as entries
-use Rattle.interleavings.specs.Events.{entry_of, log_of, word_given}
+use Rattle.interleavings.specs.Events.{log_of, word_given}
 use Rattle.interleavings.specs.Walking.{is_exit, IsMet, Walks}
 use Rattle.interleavings.specs.EventStep.{after_event}
 use Rattle.interleavings.specs.Following.{Makes, Over, met_of, on_met, event_before, place_after, turns_after, follow_from}

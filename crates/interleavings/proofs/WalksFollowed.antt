@@ -1,5 +1,5 @@
 -- A thread that goes from event to event is followed through these events by their log.
-use Rattle.std.proofs.Common.{◌≡◌, ℕ, ◌+◌, ◌<◌, List, [], Ok, refl, arith}
+use Rattle.std.proofs.Common.{◌≡◌, ℕ, ◌+◌, List, [], Ok, refl, arith}
 use Rattle.stride_isa.specs.Listing.{Listing}
 use Rattle.sc_machine.specs.ThreadStep.{Thread, start_thread, settled}
 use Rattle.sc_machine.specs.Schedule.{stopped}

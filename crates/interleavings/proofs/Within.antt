@@ -5,7 +5,7 @@ use Rattle.interleavings.specs.declared.acts.Acts.{Acts}
 use Rattle.interleavings.specs.declared.acts.HeldTurn.{HeldTurn}
 use Rattle.interleavings.specs.declared.acts.OddLooks.{OddLooks}
 use Rattle.interleavings.specs.declared.acts.Phase.{Phase}
-use Rattle.interleavings.specs.declared.acts.Phase.TheVariants.{Idle, Loaded, Numbered, Marked, Fetched, Stored, Looked}
+use Rattle.interleavings.specs.declared.acts.Phase.TheVariants.{Idle, Loaded, Numbered, Marked, Fetched, Looked}
 use Rattle.interleavings.specs.declared.kind.Kind.{Kind}
 use Rattle.interleavings.specs.declared.kind.Kind.TheVariants as by
 use Rattle.interleavings.specs.AtomicStep.{SharedWord, Drawn, Value, Number, Monitor, word_of, word_after, phase_after, phase_if, held_after, held_if, marked, fetched, stored, number_in, turn_in, held_turn, turn_or_zero, is_even, one_more, looked, looks_after}

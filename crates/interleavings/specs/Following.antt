@@ -1,11 +1,11 @@
 -- Following: each thread run again by its code, where its log answers its shared instructions.
-use Rattle.std.specs.Prelude.{◌≡◌, ℕ, zero, suc, ◌+◌, ◌==◌, if◌then◌else◌, List, [], ◌∷◌, map, length, Option, Some, None, Result, Ok, Err, slice_get}
+use Rattle.std.specs.Prelude.{ℕ, zero, suc, ◌+◌, ◌==◌, if◌then◌else◌, List, [], ◌∷◌, length, Option, Some, None, Result, Ok, Err, slice_get}
 use Rattle.stride_isa.specs.Changes.{applied}
 use Rattle.stride_isa.specs.Listing.{Listing}
 use Rattle.stride_isa.specs.declared.change.Change.{Change}
 use Rattle.sc_machine.specs.declared.stop.Stop.{Stop}
 use Rattle.sc_machine.specs.declared.stop.Stop.TheVariants as stops
-use Rattle.sc_machine.specs.Schedule.{stopped, thread_numbers}
+use Rattle.sc_machine.specs.Schedule.{stopped}
 use Rattle.sc_machine.specs.ThreadStep.{Thread, start_thread, settled, stop_of}
 use Rattle.interleavings.specs.declared.event.Event.{Event}
 use Rattle.interleavings.specs.declared.event.Event.TheVariants as events

@@ -1,7 +1,8 @@
 -- What holds of every recording, whatever the program and the order are, and of following.
-use Rattle.std.specs.Prelude.{◌≡◌, ◌≤◌, ◌<◌, ℕ, false, List, None, Ok, length}
+use Rattle.std.specs.Prelude.{◌≡◌, ◌≤◌, ◌<◌, ℕ, true, false, List, Some, None, Ok, length, slice_get}
 use Rattle.std.specs.List.{AllByRecursion}
 use Rattle.stride_isa.specs.Listing.{Listing}
+use Rattle.sc_machine.specs.declared.end.End.TheVariants.{Stopped}
 use Rattle.sc_machine.specs.ThreadStep.{Thread, start_thread, settled, stop_of}
 use Rattle.sc_machine.specs.Schedule.{stopped}
 use Rattle.interleavings.specs.declared.event.Event.{Event}
@@ -10,7 +11,7 @@ use Rattle.interleavings.specs.declared.rest.Rest.{Rest}
 use Rattle.interleavings.specs.Events.{log_of}
 use Rattle.interleavings.specs.Following.{Followed, no_turns, follow}
 use Rattle.interleavings.specs.Walking.{is_exit, Walks}
-use Rattle.interleavings.specs.Recording.{Setting, IsHistoryOf, IsFollowed}
+use Rattle.interleavings.specs.Recording.{Setting, acts_of, gives_up, IsHistoryOf, IsFollowed}
 use Rattle.interleavings.specs.Driving.{advance_all, begun, settle_all, is_left, driven, whole_run, stranger}
 
 -- the recording that an order of the program's threads gives is that of its run's steps, which are a history, and after
@@ -26,6 +27,10 @@ DrivenIsFollowed = (g : Setting) (order : List ℕ) → stranger (length g.progr
 -- no log of the recording that an order gives has more entries than a thread has fuel
 abbrev pub DrivenIsShort : Type 0
 DrivenIsShort = (g : Setting) (order : List ℕ) → 1 ≤ g.fuel → stranger (length g.program.threads) order ≡ None → AllByRecursion (λ log. length log ≤ g.fuel) (driven g order).logs
+
+-- a thread whose row of odd looks has reached the patience ended as stopped
+abbrev pub DrivenGivesUp : Type 0
+DrivenGivesUp = (g : Setting) (order : List ℕ) → stranger (length g.program.threads) order ≡ None → (t : ℕ) → t < length g.program.threads → gives_up g.patience (acts_of g (whole_run g order).steps t).looks ≡ true → (pc : ℕ) × (slice_get (driven g order).ends t ≡ Some (Stopped pc))
 
 -- once a run has settled, no thread of the program has anything left, so the bound on the steps of settling is never met
 abbrev pub NothingIsLeft : Type 0

@@ -1,5 +1,5 @@
 -- Recordings: what is kept of a run of a program's threads over the shared words, however their steps interleaved.
-use Rattle.std.specs.Prelude.{◌≡◌, ◌⊎◌, ℕ, ◌<◌, Bool, true, false, Option, Some, None, nat_le, slice_get, List, [], ◌∷◌, map, length, Ok}
+use Rattle.std.specs.Prelude.{◌≡◌, ◌⊎◌, ℕ, ◌<◌, Bool, false, Option, Some, None, nat_le, slice_get, List, [], ◌∷◌, map, length, Ok}
 use Rattle.std.specs.List.{range_with_len}
 use Rattle.stride_isa.specs.Listing.{Listing, cell_count, op_at, starts_of}
 use Rattle.stride_isa.specs.declared.op.Op.TheVariants as ops

@@ -1,5 +1,5 @@
 //! Laws of recordings and of following, over the definitions alone. Each is the contract of a function that does nothing.
-ghost use Rattle.interleavings.specs.Laws.{DrivenIsAHistory, DrivenIsFollowed, DrivenIsShort, NothingIsLeft, FollowedUsesItsLog, FollowedWalks, WalksAreFollowed};
+ghost use Rattle.interleavings.specs.Laws.{DrivenIsAHistory, DrivenIsFollowed, DrivenIsShort, DrivenGivesUp, NothingIsLeft, FollowedUsesItsLog, FollowedWalks, WalksAreFollowed};
 
 /// What an order of atomic steps gives is a recording of a history, after which each thread is at rest.
 pub fn driven_is_a_history()
@@ -15,6 +15,11 @@ pub fn driven_is_followed()
 /// A log that an order of atomic steps gives has at most as many entries as a thread has fuel.
 pub fn driven_is_short()
     ensures { DrivenIsShort }
+{}
+
+/// A thread whose row of odd looks has reached the patience ended as stopped.
+pub fn driven_gives_up()
+    ensures { DrivenGivesUp }
 {}
 
 /// Once a run has settled, no thread has anything left of what it had claimed or loaded, and none stands at an exit.

@@ -1,9 +1,9 @@
 //! Recording one atomic step at a time.
 //!
 //! Owns: events and log entries (`Events`), the eleven kinds of atomic steps (`AtomicStep`), histories of such steps
-//! (`History`), what a recording is (`Recording`), the recording that an order gives (`Driving`), what running a thread again
-//! by its log comes to (`Following`), and the laws that the recording's steps are a history and that following its logs gives
-//! its events, its outputs and its ends (`Laws`).
+//! (`History`), what a recording is (`Recording`), the recording that an order gives (`Driving`), going from event to event
+//! (`Walking`), what running a thread again by its log comes to (`Following`), and the laws of these (`Laws`): the recording
+//! of an order is one of a history, and following its logs gives its events, its outputs and its ends.
 //! The layer above may rely on this: `drive` gives exactly that recording, and an event of `Traces` is seen by `at` alone.
 #![tactic(auto)]
 
@@ -30,7 +30,7 @@ pub use driven::{DriveError, Driven, drive};
 pub use event::{Event, LogEntry, entry_of};
 pub use kind::Kind;
 pub use laws::{
-    driven_is_a_history, driven_is_followed, driven_is_short, followed_uses_its_log,
+    driven_gives_up, driven_is_a_history, driven_is_followed, driven_is_short, followed_uses_its_log,
     followed_walks, nothing_is_left, walks_are_followed,
 };
 pub use limits::PATIENCE_LIMIT;

@@ -1,6 +1,6 @@
 use Rattle.std.proofs.Common.{sym, ◌∙◌, ap}
 use Rattle.std.specs.Option.{option_map}
-use Rattle.sc_machine.specs.StandingThread.{Standing, stop_here}
+use Rattle.sc_machine.specs.StandingThread.{Standing}
 use Rattle.interleavings.specs.CoreShows.{step_seen}
 use Rattle.interleavings.specs.SimulationShows.{gone_on}
 use Rattle.interleavings.proofs.Advancing.{ended_shown, may_happen, may_go_on, advanced, same_thread}

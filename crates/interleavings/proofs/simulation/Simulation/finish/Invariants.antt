@@ -1,4 +1,3 @@
-use Rattle.std.proofs.Common.{ℕ}
 use Rattle.interleavings.specs.SimulationShows.{Shows}
 use Rattle.interleavings.specs.Recording.{Setting}
 use Rattle.interleavings.specs.Driving.{Drive}

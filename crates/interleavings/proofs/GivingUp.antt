@@ -1,0 +1,121 @@
+-- A thread whose row of odd looks has reached the patience ended as stopped.
+use Rattle.std.proofs.Common.{◌≡◌, ℕ, zero, suc, ◌<◌, true, List, [], ◌∷◌, Option, Some, None, length, map, get_or, refl, sym, ◌∙◌, ap, subst, inl, inr, arith}
+use Rattle.std.proofs.lemmas.Bool.{true≢false, cases_eq, cond_both}
+use Rattle.std.proofs.lemmas.List.{get_or-set_same, get_or-set_other}
+use Rattle.std.specs.Prelude.{nat_le, slice_get, unwrap_or}
+use Rattle.stride_isa.specs.Listing.{op_at}
+use Rattle.sc_machine.specs.declared.end.End.{End}
+use Rattle.sc_machine.specs.declared.end.End.TheVariants.{Stopped}
+use Rattle.sc_machine.specs.declared.stop.Stop.{Stop}
+use Rattle.sc_machine.specs.declared.stop.Stop.TheVariants as stops
+use Rattle.sc_machine.specs.ThreadRun.{IsShared}
+use Rattle.sc_machine.specs.ThreadStep.{Thread, Row, row, now_unless, start_thread, stop_in, stop_of, end_of}
+use Rattle.sc_machine.specs.Schedule.{stopped}
+use Rattle.interleavings.specs.declared.acts.Acts.{Acts}
+use Rattle.interleavings.specs.declared.acts.OddLooks.{OddLooks}
+use Rattle.interleavings.specs.declared.event.Event.{Event}
+use Rattle.interleavings.specs.AtomicStep.{word_of, acts_after}
+use Rattle.interleavings.specs.History.{Step}
+use Rattle.interleavings.specs.Recording.{Setting, state_of, acts_of, gives_up}
+use Rattle.interleavings.specs.Driving.{Drive, thread_of, next_step, finished_in, thread_after, stepped, stepped_if, advance, advance_all, begun, driven, recording_of, stranger, whole_run}
+use Rattle.interleavings.proofs.Advances.{IsRun, advance-run}
+use Rattle.interleavings.proofs.Beginning.{begun-run, begun-calm}
+use Rattle.interleavings.proofs.InPlace.{AreInPlace, IsInPlaceAfter, in_place_after}
+use Rattle.interleavings.proofs.NextSteps.{step_at}
+use Rattle.interleavings.proofs.Reaching.{reached-settled}
+use Rattle.interleavings.proofs.Settling.{settled_run, order-resting}
+use Rattle.interleavings.proofs.StepPeople.{step_here, step_elsewhere}
+use Rattle.interleavings.proofs.Strangers.{known_first}
+
+-- the thread was stopped where it stood, if it gives up
+abbrev IsStoppedIf : ℕ → Option OddLooks → Thread → Type 0
+IsStoppedIf patience looks s = gives_up patience looks ≡ true → s.ended ≡ Some (Stopped s.pc)
+
+-- each thread of the run
+abbrev AreStopped : Setting → Drive → Type 0
+AreStopped g d = (t : ℕ) → t < length g.program.threads → IsStoppedIf g.patience (acts_of g d.steps t).looks (thread_of d t)
+
+-- a thread at a shared instruction has not ended
+not_ended : (ended : Option End) (r : Row) → IsShared (stop_in (now_unless ended r)) → ended ≡ None
+not_ended None r shared = refl
+not_ended (Some end) r shared = absurd shared
+
+-- after its own step, by what that finished
+after-stopped : (g : Setting) (t : ℕ) (stop : Stop) (s : Thread) (acts : Acts) (finished : Option Event) → s.ended ≡ None → IsInPlaceAfter g.patience stop s.held acts.name acts.phase acts.held acts.looks finished → IsStoppedIf g.patience acts.looks (thread_after g t finished acts.looks s)
+after-stopped g t stop s acts (Some event) open_yet after_step = λ gives. absurd (true≢false (sym gives ∙ (after_step (stops.Read 0)).patient))
+after-stopped g t stop s acts None open_yet after_step = λ gives.
+    cond_both (gives_up g.patience acts.looks) (stopped s) s (λ x. x.ended ≡ Some (Stopped x.pc)) (λ e. ap (λ ended. Some (unwrap_or ended (Stopped s.pc))) open_yet) (λ calm. absurd (true≢false (sym gives ∙ calm)))
+
+module _ (g : Setting) (t : ℕ) (stop : Stop) (d : Drive) (there : t < length g.program.threads) (shared : IsShared stop) (e : stop_of g.program t (thread_of d t) ≡ stop) (run : IsRun g d) (each : AreStopped g d) where
+  abbrev s : Thread
+  s = thread_of d t
+
+  abbrev old : Acts
+  old = acts_of g d.steps t
+
+  abbrev next : Step
+  next = step_at t stop old.phase
+
+  abbrev new : Acts
+  new = acts_after next.kind next.at next.value old ((state_of g d.steps).words (word_of next.kind next.at))
+
+  -- the thread that makes it
+  here : IsStoppedIf g.patience (acts_of g (next ∷ d.steps) t).looks (thread_after g t (finished_in (state_of g d.steps) next) (acts_of g (next ∷ d.steps) t).looks s)
+  here =
+      let in_place : AreInPlace g.patience stop s.held old = subst (λ (x : Stop). AreInPlace g.patience x s.held old) e (run.in_place t there) in
+      let unended : s.ended ≡ None = not_ended s.ended (row g.program (op_at g.program t s.pc) s.pc s.stack s.locals s.held) (subst IsShared (sym e) shared) in
+      subst (λ (a : Acts). IsStoppedIf g.patience a.looks (thread_after g t (finished_in (state_of g d.steps) next) a.looks s)) (sym (step_here g next d.steps))
+      (after-stopped g t stop s new (finished_in (state_of g d.steps) next) unended (in_place_after g.patience stop s.held old.name old.phase old.events old.held old.looks _ shared in_place))
+
+  -- and each thread
+  stepped-stopped : AreStopped g (stepped g next d)
+  stepped-stopped u below = elim (cases_eq u t) [
+    | inl same ↦ subst (λ (x : ℕ). IsStoppedIf g.patience (acts_of g (next ∷ d.steps) x).looks (thread_of (stepped g next d) x)) (sym same)
+        (subst (λ (x : Thread). IsStoppedIf g.patience (acts_of g (next ∷ d.steps) t).looks x) (sym (get_or-set_same d.threads t _ start_thread (omega (arith, run.count)))) here)
+    | inr other ↦ subst (λ (x : Thread). IsStoppedIf g.patience (acts_of g (next ∷ d.steps) u).looks x) (sym (get_or-set_other d.threads t u _ start_thread other))
+        (subst (λ (a : Acts). IsStoppedIf g.patience a.looks (thread_of d u)) (sym (step_elsewhere g next d.steps u other)) (each u below))
+  ]
+
+-- by the stop
+advanced-stopped : (g : Setting) (t : ℕ) (stop : Stop) (d : Drive) → t < length g.program.threads → stop_of g.program t (thread_of d t) ≡ stop → IsRun g d → AreStopped g d → AreStopped g (stepped_if g (next_step t stop (acts_of g d.steps t).phase) d)
+advanced-stopped g t (stops.Read cell) d there e run each = stepped-stopped g t (stops.Read cell) d there tt e run each
+advanced-stopped g t (stops.Write cell value) d there e run each = stepped-stopped g t (stops.Write cell value) d there tt e run each
+advanced-stopped g t (stops.Update cell change) d there e run each = stepped-stopped g t (stops.Update cell change) d there tt e run each
+advanced-stopped g t (stops.Enter monitor) d there e run each = stepped-stopped g t (stops.Enter monitor) d there tt e run each
+advanced-stopped g t (stops.Exit monitor) d there e run each = stepped-stopped g t (stops.Exit monitor) d there tt e run each
+advanced-stopped g t (stops.Ended end) d there e run each = each
+
+advance-stopped : (g : Setting) (t : ℕ) (d : Drive) → t < length g.program.threads → IsRun g d → AreStopped g d → AreStopped g (advance g t d)
+unfolding advance
+advance-stopped g t d there run each = advanced-stopped g t (stop_of g.program t (thread_of d t)) d there refl run each
+
+-- along an order
+order-stopped : (g : Setting) (order : List ℕ) (d : Drive) → stranger (length g.program.threads) order ≡ None → IsRun g d → AreStopped g d → AreStopped g (advance_all g order d)
+unfolding advance_all stranger
+order-stopped g [] d known run each = each
+order-stopped g (t ∷ ts) d known run each =
+    let first = known_first (nat_le (length g.program.threads) t) (length g.program.threads) t (stranger (length g.program.threads) ts) refl known in
+    order-stopped g ts (advance g t d) first.1 (advance-run g t d first.0 run) (advance-stopped g t d first.0 run each)
+
+-- at the start nobody has looked
+begun-stopped : (g : Setting) → AreStopped g (begun g)
+begun-stopped g t below gives = absurd (true≢false (sym gives ∙ ap (gives_up g.patience) (begun-calm g t below)))
+
+-- a run that has settled
+settled-stopped : (g : Setting) (order : List ℕ) → stranger (length g.program.threads) order ≡ None → AreStopped g (settled_run g order)
+settled-stopped g order known =
+    let reached = reached-settled g order known in
+    subst (λ (d : Drive). AreStopped g d) (sym reached.same) (order-stopped g reached.order (begun g) reached.known (begun-run g) (begun-stopped g))
+
+-- the end of a thread in a list of them
+end_at : (threads : List Thread) (t : ℕ) → t < length threads → slice_get (map end_of (map stopped threads)) t ≡ Some (end_of (get_or threads t start_thread))
+end_at [] t below = absurd (omega arith)
+end_at (s ∷ threads) zero below = refl
+end_at (s ∷ threads) (suc t) below = end_at threads t (omega arith)
+
+pub driven-gives_up : (g : Setting) (order : List ℕ) → stranger (length g.program.threads) order ≡ None → (t : ℕ) → t < length g.program.threads → gives_up g.patience (acts_of g (whole_run g order).steps t).looks ≡ true → (pc : ℕ) × (slice_get (driven g order).ends t ≡ Some (Stopped pc))
+unfolding driven recording_of whole_run
+driven-gives_up g order known t below gives =
+    let d = settled_run g order in
+    let s = thread_of d t in
+    (s.pc, end_at d.threads t (omega (arith, (order-resting g order known).0.0.count)) ∙ ap (λ ended. Some (unwrap_or ended (Stopped s.pc))) (settled-stopped g order known t below gives))
