@@ -142,17 +142,22 @@ fn numbers_of_the_second_version(rt: HostRuntime) -> Result<(), Fail> {
     Ok(())
 }
 
-/// A bundle without a text, whose one log has these entries.
-fn with_log(rt: HostRuntime, entries: &[LogEntry]) -> Result<Bundle, Fail> {
-    let mut log = List::new(rt.alloc());
-    log.push_all(entries)?;
-    let mut logs = List::new(rt.alloc());
-    logs.push(log)?;
-    Ok(Bundle {
-        fuel: 1_000_000,
-        text: List::new(rt.alloc()),
-        logs,
-    })
+/// The beginning of a bundle of version 2 with 1,000,000 instructions, no text and one thread.
+const ONE_THREAD: [u8; 13] = *b"STRIDE2\n\xc0\x84\x3d\x00\x01";
+
+/// Whether one log of these entries is read from these bytes, and written so again.
+fn are_spelled_so(rt: HostRuntime, entries: &[LogEntry], log: &[u8]) -> Result<bool, Fail> {
+    let mut bytes = List::new(rt.alloc());
+    bytes.push_all(&ONE_THREAD)?;
+    bytes.push_all(log)?;
+    let bundle = decode(rt.alloc(), bytes.as_slice())?;
+    for read in bundle.logs.as_slice() {
+        if read.as_slice() != entries {
+            return Ok(false);
+        }
+    }
+    let again = encode(rt.alloc(), &bundle)?;
+    Ok(bundle.logs.len() == 1 && again.as_slice() == bytes.as_slice())
 }
 
 #[test]
@@ -206,31 +211,34 @@ fn entries_of_each_kind(rt: HostRuntime) -> Result<(), Fail> {
         ),
     ];
     for (entries, log) in rows {
-        let bytes = encode(rt.alloc(), &with_log(rt, entries)?)?;
-        assert_eq!(rt;
-            &bytes.as_slice()[..13],
-            b"STRIDE2\n\xc0\x84\x3d\x00\x01".as_slice()
-        );
-        assert_eq!(rt; &bytes.as_slice()[13..], log);
-        let again = decode(rt.alloc(), bytes.as_slice())?;
-        assert_eq!(rt; again.logs.as_slice()[0].as_slice(), entries);
+        assert!(rt; are_spelled_so(rt, entries, log)?);
     }
     Ok(())
 }
 
+/// A bundle of version 1 with so many reads, whose values differ in all bits and whose bounds rise by one.
+fn reads(rt: HostRuntime, count: u32) -> Result<List<u8>, Fail> {
+    let mut bytes = List::new(rt.alloc());
+    bytes.push_all(b"STRIDE1\n\x00\x0f\x42\x40\x00\x00\x00\x00\x00\x01")?;
+    bytes.push_all(&count.to_be_bytes())?;
+    for bound in 0..count {
+        bytes.push(1)?;
+        bytes.push_all(&0xfedc_ba98_7654_3210_u64.to_be_bytes())?;
+        bytes.push_all(&bound.to_be_bytes())?;
+    }
+    Ok(bytes)
+}
+
 #[test]
 fn a_large_bundle_is_read_and_written(rt: HostRuntime) -> Result<(), Fail> {
-    let mut entries = List::new(rt.alloc());
-    for i in 0..60_000_u32 {
-        entries.push(LogEntry::Read {
-            bound: i / 2,
-            value: 0xfedc_ba98_7654_3210,
-        })?;
-        entries.push(LogEntry::Write { number: i })?;
-    }
-    let bytes = encode(rt.alloc(), &with_log(rt, entries.as_slice())?)?;
+    let bundle = decode(rt.alloc(), reads(rt, 50_000)?.as_slice())?;
+    let bytes = encode(rt.alloc(), &bundle)?;
+    assert_eq!(rt; bytes.len(), 13 + 3 + 50_000 * 12);
     let again = decode(rt.alloc(), bytes.as_slice())?;
-    assert_eq!(rt; again.logs.as_slice()[0].as_slice(), entries.as_slice());
+    for (one, other) in bundle.logs.as_slice().iter().zip(again.logs.as_slice()) {
+        assert_eq!(rt; one.len(), 50_000);
+        assert_eq!(rt; one.as_slice(), other.as_slice());
+    }
     Ok(())
 }
 
