@@ -1,5 +1,5 @@
 -- The laws of bundles.
-use Rattle.std.proofs.Common.{◌≡◌, ℕ, ◌-◌, ◌+◌, ◌<◌, ◌≤◌, Bool, true, false, cond, eqb, get_or, ◌⊎◌, List, [], ◌++◌, length, take, Result, Ok, Err, refl, sym, ap, subst, ◌∙◌, append_assoc, arith, inl, inr, length-append}
+use Rattle.std.proofs.Common.{◌≡◌, ℕ, ◌-◌, ◌+◌, ◌<◌, ◌≤◌, cond, eqb, get_or, List, [], ◌++◌, length, take, Result, Ok, Err, refl, sym, ap, subst, ◌∙◌, append_assoc, arith, inl, inr, length-append}
 use Rattle.std.specs.Prelude.{IfOk}
 use Rattle.std.proofs.lemmas.Bool.{eqb-true, ne_eqb}
 use Rattle.std.proofs.lemmas.List.{append-nil, nil_from_length}
@@ -21,7 +21,7 @@ use Rattle.log_format.specs.Spelling.{body_bytes, digit, magic, spelling}
 use Rattle.log_format.proofs.Bytes.{IsBytes-after}
 use Rattle.log_format.proofs.EntryReaders.{IsBody, a_body, body_begins, body_reads}
 use Rattle.log_format.proofs.NumberReaders.{IsMagic, magic_begins, magic_reads, none_unfinished, not_empty}
-use Rattle.log_format.proofs.Readers.{chosen, given, failed, ok_is, err_is, ok_fails, moved, IsWrong, Joined, Reads, IsBegunAs, reads_then}
+use Rattle.log_format.proofs.Readers.{chosen, given, failed, ok_is, err_is, ok_fails, moved, IsWrong, Joined, Reads, reads_then}
 
 -- ---- a bundle and the bytes after it
 

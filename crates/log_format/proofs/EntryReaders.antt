@@ -1,5 +1,5 @@
 -- The readers of entries, of logs, and of what stands after the magic bytes.
-use Rattle.std.proofs.Common.{◌≡◌, ℕ, zero, suc, ◌+◌, ◌*◌, ◌-◌, ◌/◌, ◌%◌, ◌^◌, ◌≤◌, ◌<◌, Bool, true, false, ltb, eqb, cond, ◌⊎◌, List, [], ◌∷◌, ◌++◌, length, Option, Some, None, Result, Ok, Err, refl, sym, ap, subst, ◌∙◌, arith, inl, inr, append_assoc}
+use Rattle.std.proofs.Common.{◌≡◌, ℕ, zero, suc, ◌+◌, ◌*◌, ◌-◌, ◌/◌, ◌%◌, ◌^◌, ◌≤◌, ◌<◌, Bool, false, ltb, eqb, cond, ◌⊎◌, List, [], ◌∷◌, ◌++◌, length, Option, Some, None, Result, Ok, Err, refl, sym, ap, subst, ◌∙◌, arith, inl, inr}
 use Rattle.std.specs.List.{AllByRecursion, flat_map}
 use Rattle.std.proofs.lemmas.Bool.{cases_lt, ltb-true, ltb-false, lt-ltb, le-ltb, eqb-true, eqb-false, eq-eqb, ne_eqb}
 use Rattle.std.proofs.lemmas.List.{append-nil}
@@ -15,10 +15,10 @@ use Rattle.log_format.specs.declared.version.Version.{Version}
 use Rattle.log_format.specs.declared.version.Version.TheVariants.{One, Two}
 use Rattle.log_format.specs.Bundles.{Bundled, HasUpdates, IsEntryOf, IsInRange}
 use Rattle.log_format.specs.Laws.{IsUnfinished}
-use Rattle.log_format.specs.Reading.{◌>>=◌, short, fault, byte_at, number_at, number_up_to, fuel_at, text_at, of_32_bits, bound_by, stepped, bound_at, read_at, write_at, enter_at, update_at, fourth_kind, kind_of, known, kind_at, fields_at, entry_at, entries_at, log_at, logs_at, body_at}
+use Rattle.log_format.specs.Reading.{◌>>=◌, fault, byte_at, number_at, number_up_to, fuel_at, text_at, of_32_bits, bound_by, stepped, bound_at, read_at, write_at, enter_at, update_at, fourth_kind, kind_of, known, kind_at, fields_at, entry_at, entries_at, log_at, logs_at, body_at}
 use Rattle.log_format.specs.Spelling.{greatest, number_bytes, step_between, bound_bytes, bound_after, entry_bytes, entries_bytes, log_bytes, text_bytes, logs_bytes, body_bytes}
 use Rattle.log_format.proofs.NumberReaders.{IsByte, IsFuel, IsNumber, IsText, IsUpTo, a_number, a_limited, byte_reads, byte_unfinished, fuel_begins, fuel_reads, none_unfinished, number_begins, number_is_some, number_of_nothing, number_reads, number_unfinished, text_begins, text_reads, up_to_begins, up_to_reads}
-use Rattle.log_format.proofs.Readers.{chosen, given, ok_is, ok_fails, failed, Reads, Begins, Unfinished, IsSome, begins_as_number, reads_as, begins_as, IsDone, reads_done, begins_done, Joined, reads_then, begins_then, Judged, Verdict, reads_judged, unfinished_judged}
+use Rattle.log_format.proofs.Readers.{chosen, ok_is, Reads, Begins, IsSome, begins_as_number, reads_as, begins_as, IsDone, reads_done, begins_done, Joined, reads_then, begins_then, Judged, reads_judged, unfinished_judged}
 
 -- ---- bounds
 

@@ -1,5 +1,5 @@
 -- The readers of numbers in both versions, of the text, and of the magic bytes.
-use Rattle.std.proofs.Common.{◌≡◌, ℕ, ◌-◌, ◌≤◌, ◌<◌, Bool, true, false, ltb, eqb, cond, ◌⊎◌, List, [], ◌∷◌, ◌++◌, length, take, replicate, Result, Ok, Err, refl, sym, ap, subst, ◌∙◌, arith, inl, inr, length-append}
+use Rattle.std.proofs.Common.{◌≡◌, ℕ, ◌-◌, ◌≤◌, ◌<◌, Bool, true, false, ltb, eqb, cond, ◌⊎◌, List, [], ◌∷◌, ◌++◌, length, replicate, Result, Ok, Err, refl, sym, ap, subst, ◌∙◌, arith, inl, inr, length-append}
 use Rattle.std.proofs.lemmas.Bool.{ltb-false, le-ltb, eqb-true, eqb-false, ne_eqb}
 use Rattle.std.proofs.lemmas.Bool.Decides.{nat_tests}
 use Rattle.std.proofs.lemmas.List.{append-nil, length-replicate}
@@ -15,7 +15,7 @@ use Rattle.log_format.specs.Reading.{◌>>=◌, short, fault, byte_at, letter_at
 use Rattle.log_format.specs.Spelling.{digit, greatest, magic, number_bytes, stride, text_bytes}
 use Rattle.log_format.proofs.Bytes.{IsBytes-take, IsBytes-of_zeros, IsBytes-zeros}
 use Rattle.log_format.proofs.Groups.{IsGrouped, grouped_reads, grouped_of_nothing, grouped_begins, groups_are_some}
-use Rattle.log_format.proofs.Readers.{chosen, guard_ok, guard_passed, given, failed, ok_is, err_is, ok_fails, Leaves, Takes, Reads, IsBegunAs, Begins, Unfinished, IsSome, begins_as_number, reads_as, begins_as, IsDone, reads_done, begins_done, Joined, reads_then, begins_then, Judged, Verdict, refusing, tested, reads_judged, unfinished_judged}
+use Rattle.log_format.proofs.Readers.{chosen, guard_ok, guard_passed, given, failed, ok_is, err_is, ok_fails, Leaves, Takes, Reads, Begins, Unfinished, IsSome, begins_as_number, reads_as, begins_as, IsDone, reads_done, begins_done, Joined, reads_then, begins_then, Judged, Verdict, refusing, tested, reads_judged, unfinished_judged}
 use Rattle.log_format.proofs.Wide.{piece_again, piece_read, piece_leaves, piece_short, wide_reads, wide_of_nothing, wide_is_some, wide_begins}
 
 -- ---- numbers

@@ -1,6 +1,5 @@
 -- Readers of parts, what is to be shown of each, and how they are put together.
 use Rattle.std.proofs.Common.{◌≡◌, ℕ, ◌+◌, ◌<◌, Bool, true, false, cond, ◌⊎◌, List, [], ◌∷◌, ◌++◌, length, Result, Ok, Err, refl, sym, ap, subst, ◌∙◌, append_assoc, arith, inl, inr, length-append}
-use Rattle.std.proofs.lemmas.List.{append-nil}
 use Rattle.log_format.specs.declared.fault.Fault.{Fault}
 use Rattle.log_format.specs.declared.format_error.FormatKind.{FormatKind}
 use Rattle.log_format.specs.Bundles.{IsBytes}

@@ -1,5 +1,5 @@
 -- Numbers in all bytes of their width.
-use Rattle.std.proofs.Common.{◌≡◌, ℕ, ◌-◌, ◌+◌, ◌≤◌, ◌<◌, ◌⊎◌, false, cond, ltb, List, [], ◌++◌, length, take, drop, replicate, Result, Ok, Err, refl, sym, ap, ◌∙◌, arith, inl, inr}
+use Rattle.std.proofs.Common.{◌≡◌, ℕ, ◌-◌, ◌≤◌, ◌<◌, ◌⊎◌, false, cond, ltb, List, [], ◌++◌, length, take, drop, replicate, Result, Ok, Err, refl, sym, ap, ◌∙◌, arith, inl, inr}
 use Rattle.std.specs.Prelude.{IfOk}
 use Rattle.std.specs.Int.{byte_len, from_be_bytes, to_be_bytes}
 use Rattle.std.proofs.lemmas.Bool.{ltb-false, le-ltb, ltb-true}
@@ -13,7 +13,7 @@ use Rattle.log_format.specs.Answers.{Gives}
 use Rattle.log_format.specs.Bundles.{IsBytes}
 use Rattle.log_format.specs.Reading.{short, wide_at}
 use Rattle.log_format.specs.Spelling.{greatest, width_of}
-use Rattle.log_format.proofs.Bytes.{IsBytes-take, IsBytes-drop, IsBytes-zeros}
+use Rattle.log_format.proofs.Bytes.{IsBytes-take, IsBytes-zeros}
 use Rattle.log_format.proofs.Readers.{chosen, guard_ok, failed, given, ok_is, err_is, ok_fails, IsWrong, Leaves, Takes, Reads}
 
 -- ---- so many bytes, seen as something

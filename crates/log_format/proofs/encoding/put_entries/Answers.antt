@@ -1,4 +1,3 @@
-use Rattle.std.proofs.Common.{◌∙◌}
 use Rattle.std.proofs.lemmas.List.Elements.{All-more}
 use Rattle.log_format.specs.Bundles.{IsEntryOf}
 use Rattle.log_format.specs.declared.version.Version.TheVariants.{Two}
