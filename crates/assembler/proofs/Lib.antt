@@ -19,4 +19,5 @@ pub mod ReadCode
 pub mod ReadDecls
 pub mod ReadLines
 pub mod ReadingLemmas
+pub mod SplitLemmas
 pub mod WordLemmas

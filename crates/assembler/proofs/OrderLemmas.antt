@@ -1,8 +1,10 @@
 -- The steps of the loops that read an order, and what they make together.
-use Rattle.std.proofs.Common.{◌≡◌, ◌≢◌, ℕ, ◌+◌, ◌<◌, ◌≤◌, Bool, true, false, ltb, List, [], ◌∷◌, ◌++◌, length, get_or, take, drop, Option, Some, None, Result, Ok, Err, refl, sym, append_assoc}
+use Rattle.std.proofs.Common.{◌≡◌, ◌≢◌, ℕ, ◌+◌, ◌-◌, ◌*◌, ◌<◌, ◌≤◌, Bool, true, false, ltb, List, [], ◌∷◌, ◌++◌, length, get_or, take, drop, Option, Some, None, Result, Ok, Err, refl, sym, append_assoc, arith, lt-ltb}
 use Rattle.std.specs.Prelude.{if◌then◌else◌}
+use Rattle.std.specs.Char.{is_ascii_digit}
 use Rattle.std.specs.Option.{option_map}
 use Rattle.std.proofs.lemmas.Bool.{ne_eqb}
+use Rattle.std.proofs.lemmas.Bool.Decides.{nat_tests}
 use Rattle.std.proofs.lemmas.Grind.{flat_map-append}
 use Rattle.std.proofs.lemmas.List.{append-nil, take_more, drop_more, take_all, drop_all, length-append, length-replicate}
 use Rattle.assembler.specs.Answers.{IsAnswer}
@@ -32,6 +34,17 @@ pub halves_from-end : (word : List ℕ) (i : ℕ) → length word ≤ i → halv
 halves_from-end word i end = rw (take_all i word end, drop_all i word end, append-nil) refl
 
 pub ruleset star_steps = (halves_from-more, halves_from-star, halves_from-end)
+
+-- a word of one digit names the thread of this number once
+pub digit_run : (word : List ℕ) → length word ≡ 1 → 48 ≤ get_or word 0 0 → get_or word 0 0 ≤ 57 → repeated_of word ≡ Some (record { thread = get_or word 0 0 - 48; times = 1 })
+digit_run [] one low high = absurd (omega arith)
+digit_run (byte ∷ []) one low high =
+    let digit : is_ascii_digit byte ≡ true = grind (arith, nat_tests) in
+    let other = ne_eqb byte 42 (λ star. absurd (omega arith)) in
+    let same : 0 * 10 + (byte - 48) ≡ byte - 48 = omega arith in
+    let small = lt-ltb (byte - 48) 256 (omega arith) in
+    rw (other, digit, same, small) refl
+digit_run (byte ∷ next ∷ bytes) one low high = absurd (omega arith)
 
 and_then_words : (first : Result (List ℕ) LineFault) (rest behind : List OrderWord) → ((more : List ℕ) → with_words more (rest ++ behind) ≡ and_then (with_words more rest) (λ more. with_words more behind)) → and_then first (λ more. with_words more (rest ++ behind)) ≡ and_then (and_then first (λ more. with_words more rest)) (λ more. with_words more behind)
 and_then_words (Ok more) rest behind further = further more

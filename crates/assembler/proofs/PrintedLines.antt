@@ -9,14 +9,7 @@ use Rattle.stride_isa.specs.Listing.{Listing}
 use Rattle.stride_isa.specs.declared.op.Op.{Op}
 use Rattle.stride_isa.specs.declared.op.Op.TheVariants.{Halt}
 
--- what is written and the texts of the items that are left make the whole, and one more text is written
-pub written_more : {X : Type 0} (f : X → List ℕ) (xs : List X) (i : ℕ) (d x : X) (old new whole : List ℕ) → i < length xs → x ≡ get_or xs i d → old ++ flat_map f (drop i xs) ≡ whole → new ≡ old ++ f x → new ++ flat_map f (drop (i + 1) xs) ≡ whole
-written_more f xs i d x old new whole inside item left put =
-    let front : new ≡ old ++ f (get_or xs i d) = rw (← item) put in
-    let from = rw (drop_more xs i d inside) at left in
-    rw (front, append_assoc) from
-
--- the same of the lines of a thread's code
+-- what is written and the lines of a thread's code that are left make the whole, and one more instruction is written
 pub code_more : (p : Listing) (code : List Op) (at : ℕ) (targeted : Bool) (op : Op) (old mid new whole : List ℕ) → at < length code → targeted ≡ is_target code at → op ≡ get_or code at Halt → old ++ flat_map line_of (code_lines p code at (drop at code)) ≡ whole → mid ≡ old ++ flat_map line_of (label_lines targeted at) → new ≡ mid ++ line_of (op_words p op) → new ++ flat_map line_of (code_lines p code (at + 1) (drop (at + 1) code)) ≡ whole
 code_more p code at targeted op old mid new whole inside target is left label put =
     let from = rw (drop_more code at Halt inside, flat_map-append line_of (label_lines (is_target code at) at)) at left in
@@ -25,15 +18,6 @@ code_more p code at targeted op old mid new whole inside target is left label pu
 -- what is read of a row of Booleans
 pub row_read : (row : List Bool) (at : ℕ) (read is : Bool) → at < length row → read ≡ get_or row at read → get_or row at false ≡ is → read ≡ is
 row_read row at read is inside item there = get_or_read row at read inside item false ∙ there
-
-or-false : (b : Bool) → (b || false) ≡ b
-or-false true = refl
-or-false false = refl
-
--- one more instruction of the code is looked at
-pub marked_more : (code : List Op) (at k : ℕ) (old new : Bool) → at < length code → old ≡ list_any (jumps_to k) (take at code) → new ≡ (old || jumps_to k (get_or code at Halt)) → new ≡ list_any (jumps_to k) (take (at + 1) code)
-marked_more code at k old new inside so_far one =
-    rw (one, so_far, take_more code at Halt inside, list_any-append (jumps_to k) (take at code), or-false) refl
 
 flat_map-flat_map : {X Y : Type 0} (f : Y → List ℕ) (g : X → List Y) (xs : List X) → flat_map f (flat_map g xs) ≡ flat_map (λ x. flat_map f (g x)) xs
 flat_map-flat_map f g [] = refl

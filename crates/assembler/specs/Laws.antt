@@ -1,10 +1,15 @@
 -- What holds of the definitions of texts together.
-use Rattle.std.specs.Prelude.{◌≡◌, Ok}
+use Rattle.std.specs.Prelude.{◌≡◌, ℕ, List, Ok}
 use Rattle.stride_isa.specs.Listing.{Listing}
 use Rattle.stride_isa.specs.Validity.{IsValid}
 use Rattle.stride_isa.specs.WellFormed.{IsWellFormed}
 use Rattle.assembler.specs.Canonical.{canonical}
 use Rattle.assembler.specs.Programs.{spelled}
+use Rattle.assembler.specs.Splits.{Parts, split}
+
+-- a split cuts a text into the program's text, the first line whose only word is `order`, and the order
+abbrev pub SplitIsParts : Type 0
+SplitIsParts = (text : List ℕ) → Parts text (split text)
 
 -- the canonical text of a valid program spells this program
 abbrev pub CanonicalIsReadBack : Type 0

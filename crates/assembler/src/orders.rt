@@ -55,8 +55,8 @@ fn times_in(count: Option<&[u8]>) -> Option<usize>
     }
 }
 
-/// What a word of an order says, `t` or `t*n`.
-fn run_of(word: &[u8]) -> Option<Run>
+// What a word of an order says, `t` or `t*n`, of whatever length.
+fn spelled_run(word: &[u8]) -> Option<Run>
     ensures run { IfSome result (λ run. repeated_of word.now ≡ Some (record { thread = run.thread; times = run.times })) }
     ensures few { IfSome result (λ run. run.times ≤ order_limit) }
     ensures none { IfNone result (repeated_of word.now ≡ None) }
@@ -74,10 +74,29 @@ fn run_of(word: &[u8]) -> Option<Run>
     })
 }
 
-// The room is asked for once, so that a long run costs no more than its bytes.
+/// What a word of an order says, `t` or `t*n`. The commonest words are one digit.
+#[tactic(auto, using(crate::proofs::OrderLemmas::digit_run))]
+fn run_of(word: &[u8]) -> Option<Run>
+    ensures run { IfSome result (λ run. repeated_of word.now ≡ Some (record { thread = run.thread; times = run.times })) }
+    ensures few { IfSome result (λ run. run.times ≤ order_limit) }
+    ensures none { IfNone result (repeated_of word.now ≡ None) }
+{
+    match word {
+        [digit @ b'0'..=b'9'] => Some(Run {
+            thread: *digit - b'0',
+            times: 1,
+        }),
+        _ => spelled_run(word),
+    }
+}
+
+// The room is asked for once, so that a long run costs no more than its bytes; one member alone needs no loop.
 fn push_run(order: &mut List<u8>, run: Run) -> Result<(), NoMemory>
     ensures { OnOk result (order.new.items ≡ order.old.items ++ replicate run.times run.thread) }
 {
+    if run.times == 1 {
+        return order.push(run.thread);
+    }
     order.reserve(run.times)?;
     for _ in 0..run.times {
         order.push_spare(run.thread);

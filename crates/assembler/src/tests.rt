@@ -4,11 +4,14 @@ use std::alloc::{AllocError, Global};
 use std::fmt::Write;
 use std::process::Abort;
 use std::test::Fail;
-use stride_isa::{AddError, Name};
+use stride_isa::{AddError, Name, check};
+
+/// The most bytes of a text.
+const INPUT_LIMIT: usize = 268_435_456;
 
 /// The refusal of a text, or `None` where it is read.
 fn refusal(rt: &impl Abort, alloc: Global, text: &[u8]) -> Option<AsmError> {
-    assert!(rt; text.len() <= 268_435_456);
+    assert!(rt; text.len() <= INPUT_LIMIT);
     assemble(alloc, text).err()
 }
 
@@ -59,8 +62,21 @@ fn a_text_is_read(rt: HostRuntime) -> Result<(), Fail> {
 }
 
 #[test]
+fn a_program_is_printed(rt: HostRuntime) -> Result<(), Fail> {
+    let text =
+        b"var x 5\narray row 2 0\nmonitor m\nthread\nL0:\nenter m\npush 1\nxchg x\naddto x\npush 2\ncas x\njz L8\njump L0\nL8:\nexit m\nhalt\n";
+    let program = assemble(rt.alloc(), text)?;
+    let checked = check(rt.alloc(), program)?;
+    assert_eq!(rt;
+        print_program(rt.alloc(), &checked)?.as_slice(),
+        text.as_slice()
+    );
+    Ok(())
+}
+
+#[test]
 fn texts_that_are_read(rt: HostRuntime) {
-    let rows: [(&[u8], &str); 16] = [
+    let rows: [(&[u8], &str); 17] = [
         (b"", "no line"),
         (b"\n\n", "lines without words"),
         (b"var x", "no last line feed"),
@@ -110,6 +126,10 @@ fn texts_that_are_read(rt: HostRuntime) {
         ),
         (b"monitor m\nthread\nenter m\nexit m\nthread\n", "monitors"),
         (
+            b"var x\narray a 2\nthread\nxchg x\naddto x # 1\ncas a\n",
+            "atomic updates",
+        ),
+        (
             b"thread\ndup\ndrop\nswap\nover\nadd\nsub\nmul\ndiv\nrem\nand\nor\nxor\nshl\nshr\neq\nlt\nnot\nprint\nhalt\n",
             "each instruction without an operand",
         ),
@@ -121,7 +141,7 @@ fn texts_that_are_read(rt: HostRuntime) {
 
 #[test]
 fn lines_that_are_refused(rt: HostRuntime) {
-    let rows: [(&[u8], AsmKind, u32); 44] = [
+    let rows: [(&[u8], AsmKind, u32); 48] = [
         (b"order\n", AsmKind::BadLine, 1),
         (b"Var x\n", AsmKind::BadLine, 1),
         (b"var\n", AsmKind::BadLine, 1),
@@ -154,6 +174,8 @@ fn lines_that_are_refused(rt: HostRuntime) {
         (b"thread\npush 1 2\n", AsmKind::BadLine, 2),
         (b"thread\njump\n", AsmKind::BadLine, 2),
         (b"thread\nread 1\n", AsmKind::BadLine, 2),
+        (b"thread\naddto\n", AsmKind::BadLine, 2),
+        (b"var x\nthread\ncas x 1\n", AsmKind::BadLine, 3),
         (b"var x 18446744073709551616\n", AsmKind::BadNumber, 1),
         (b"var x +1\n", AsmKind::BadNumber, 1),
         (b"var x 1a\n", AsmKind::BadNumber, 1),
@@ -171,6 +193,8 @@ fn lines_that_are_refused(rt: HostRuntime) {
         (b"monitor x\nthread\nread x\n", AsmKind::UnknownName, 3),
         (b"var x\nthread\nenter x\n", AsmKind::UnknownName, 3),
         (b"var x\nthread\njz x\n", AsmKind::UnknownName, 3),
+        (b"thread\nxchg x\n", AsmKind::UnknownName, 2),
+        (b"monitor m\nthread\ncas m\n", AsmKind::UnknownName, 3),
         (b"var x\narray x 1\n", AsmKind::Twice, 2),
         (b"var x\nmonitor x\n", AsmKind::Twice, 2),
         (b"thread\na:\nhalt\na: # again\n", AsmKind::Twice, 4),
