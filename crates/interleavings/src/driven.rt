@@ -8,12 +8,14 @@ ghost use Rattle.interleavings.specs.Driving.{Drive, driven, recording_of, stran
 ghost use Rattle.sc_machine.specs.Schedule.{stopped};
 
 use crate::event::LogEntry;
-use crate::limits::{FUEL_LIMIT, ORDER_LIMIT, PATIENCE_LIMIT};
+use crate::limits::PATIENCE_LIMIT;
 use crate::results::{end_all, last_values, logs_of};
 use crate::simulation::Simulation;
 use crate::simulation_start::start_simulation;
 use sc_machine::End;
+use sc_machine::limits::FUEL_LIMIT;
 use std::alloc::Global;
+use stride_base::limits::ORDER_LIMIT;
 use stride_base::{List, NoMemory};
 use stride_isa::Checked;
 
