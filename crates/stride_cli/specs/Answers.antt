@@ -9,6 +9,8 @@ use Rattle.interleavings.specs.Driving.{driven, stranger}
 use Rattle.interleavings.specs.Recording.{Recording, Setting}
 use Rattle.log_format.specs.Bundles.{Bundled}
 use Rattle.log_format.specs.Reading.{reading, Refusal as FormatRefusal}
+use Rattle.log_format.specs.Spelling.{spelling}
+use Rattle.log_format.specs.declared.version.Version.TheVariants.{Two}
 use Rattle.assembler.specs.Canonical.{canonical}
 use Rattle.assembler.specs.Orders.{order_spelled}
 use Rattle.assembler.specs.Programs.{LineFault, spelled}
@@ -99,7 +101,7 @@ shown (Err refusal) = refused (Bundle refusal.kind refusal.offset)
 
 -- what `upgrade` answers to what the bytes read as: the same bundle in version 2
 abbrev pub upgraded : Result Bundled FormatRefusal → Answer
-upgraded (Ok bundle) = done (spelling bundle)
+upgraded (Ok bundle) = done (spelling Two bundle)
 upgraded (Err refusal) = refused (Bundle refusal.kind refusal.offset)
 
 -- the answer of a command to an input within the limit

@@ -1,7 +1,6 @@
 //! The words of messages: what is wrong, for the user who can mend it.
 
 use assembler::AsmKind;
-use log_format::FormatKind;
 use stride_isa::CheckKind;
 
 /// What is wrong with a line of a text or of an order.
@@ -28,16 +27,5 @@ pub fn words_of_check(kind: &CheckKind) -> &'static str {
         CheckKind::BadName => {
             "names an array where a variable is wanted, or a variable where an array is wanted"
         },
-    }
-}
-
-/// What is wrong with the bytes of a bundle.
-pub fn words_of_format(kind: &FormatKind) -> &'static str {
-    match kind {
-        FormatKind::Short => "the bundle ends too soon",
-        FormatKind::BadMagic => "not the beginning of a bundle",
-        FormatKind::BadTag => "not an entry of a log",
-        FormatKind::BadCount => "a number out of its range",
-        FormatKind::Long => "extra bytes after the bundle",
     }
 }

@@ -1,11 +1,11 @@
 //! How a command ends.
 ghost use Rattle.std.specs.Prelude.{◌≡◌};
 
-use crate::limits::INPUT_LIMIT;
-use crate::messages::{words_of_check, words_of_format, words_of_text};
+use crate::messages::{words_of_check, words_of_text};
 use assembler::AsmKind;
 use log_format::FormatKind;
 use std::fmt;
+use stride_base::limits::INPUT_LIMIT;
 use stride_isa::CheckKind;
 use thiserror::Error;
 
@@ -75,14 +75,11 @@ impl fmt::Display for Status {
     fn fmt<W: fmt::Write>(&self, f: &mut fmt::Formatter<W>) -> fmt::Result {
         match self {
             Status::Done => write!(f, "done"),
-            Status::Usage => write!(f, "usage: stride check|follow|sim|show < INPUT"),
+            Status::Usage => write!(f, "usage: stride check|follow|sim|show|upgrade < INPUT"),
             Status::ReadFault => write!(f, "the input could not be read"),
             Status::TooLong => write!(f, "the input has more than {INPUT_LIMIT} bytes"),
             Status::Program { fault } => write!(f, "{fault}"),
-            Status::Bundle { kind, offset } => {
-                let words = words_of_format(kind);
-                write!(f, "offset {offset}: {words}")
-            }
+            Status::Bundle { kind, offset } => write!(f, "offset {offset}: {kind}"),
             Status::NotEnabled { place } => {
                 write!(
                     f,
