@@ -144,7 +144,7 @@ abbrev pub stepped : Option ℕ → List ℕ → List ℕ → Result (ℕ × Lis
 stepped (Some bound) bytes rest = Ok (bound, rest)
 stepped None bytes rest = Err (fault BadCount bytes)
 
--- the bound of a read, behind a read with the bound `before`
+-- the bound of a read, after a read with the bound `before`
 unfoldable pub bound_at : Version → ℕ → List ℕ → Result (ℕ × List ℕ) Fault
 bound_at One before bytes = number_at One Bits32 bytes
 bound_at Two before bytes = do

@@ -54,7 +54,7 @@ number_bytes Two size n = groups 9 n
 abbrev pub step_between : ℕ → ℕ → ℕ
 step_between before bound = if nat_lt bound before then 2 * (before - bound) - 1 else 2 * (bound - before)
 
--- the bound of a read behind one with the bound `before`: in version 1 the bound, and in version 2 the step
+-- the bound of a read, after one with the bound `before`: in version 1 the bound, and in version 2 the step
 abbrev pub bound_bytes : Version → ℕ → ℕ → List ℕ
 bound_bytes One before bound = number_bytes One Bits32 bound
 bound_bytes Two before bound = number_bytes Two Bits64 (step_between before bound)

@@ -5,7 +5,7 @@ ghost use Rattle.log_format.specs.Spelling.{greatest, width_of};
 
 /// How a bundle is spelled.
 #[derive(Clone, Copy, Debug, PartialEq, Eq)]
-pub(crate) enum Version {
+pub enum Version {
     /// Each number has a fixed width.
     One,
     /// Small numbers take few bytes.
@@ -15,7 +15,7 @@ pub(crate) enum Version {
 impl Version {
     ghost use Rattle.std.specs.Prelude.{◌<◌};
 
-    /// The fewest bytes that an entry takes, beside its tag a number of 32 bits.
+    /// The fewest bytes that an entry takes: a tag and one number.
     pub(crate) const fn least_entry(self) -> usize
         ensures { 0 < result }
     {
@@ -38,7 +38,7 @@ impl Version {
 
 /// How many bits the numbers of a part have at most.
 #[derive(Clone, Copy, Debug, PartialEq, Eq)]
-pub(crate) enum Size {
+pub enum Size {
     Bits16,
     Bits32,
     Bits64,
