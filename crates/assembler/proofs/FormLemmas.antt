@@ -1,9 +1,7 @@
 -- What the forms of lines declare.
-use Rattle.std.proofs.Common.{◌≡◌, ◌≢◌, ℕ, ◌-◌, ◌≤◌, Bool, true, false, cond, eqb, leb, List, [], ◌∷◌, length, take, slice_index, codes, Option, Some, None, IfSome, find, refl, arith}
+use Rattle.std.proofs.Common.{◌≡◌, ℕ, ◌-◌, ◌≤◌, Bool, true, false, cond, eqb, leb, List, [], ◌∷◌, length, take, slice_index, Option, Some, None, IfSome, refl, arith}
 use Rattle.std.specs.Option.{option_and_then}
-use Rattle.std.specs.Str.{bytes_eq}
-use Rattle.std.proofs.lemmas.Bool.{false_from_ne_true, leb-true}
-use Rattle.std.proofs.lemmas.Slice.Eq.{bytes_eq-Decides}
+use Rattle.std.proofs.lemmas.Bool.{leb-true}
 use Rattle.stride_isa.specs.Instructions.{class, op_with}
 use Rattle.stride_isa.specs.Names.{is_name}
 use Rattle.stride_isa.specs.declared.op.OpKind.{OpKind}

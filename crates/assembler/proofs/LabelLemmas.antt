@@ -1,7 +1,7 @@
 -- The labels of a thread, from line to line.
-use Rattle.std.proofs.Common.{◌≡◌, ℕ, ◌+◌, Bool, true, false, ◌||◌, cond, List, [], ◌∷◌, refl}
+use Rattle.std.proofs.Common.{◌≡◌, Bool, true, false, ◌||◌, cond, List, [], ◌∷◌, refl}
 use Rattle.assembler.specs.Forms.{Form}
-use Rattle.assembler.specs.Labels.{Labels, is_thread_line, is_instruction, bears, place_of, stands_before, thread_lines, labels_at}
+use Rattle.assembler.specs.Labels.{Labels, is_thread_line, bears, place_of, stands_before, thread_lines, labels_at}
 use Rattle.assembler.specs.Seen.{labels_behind}
 
 -- a line's labels are those of the line before it, unless that begins a thread

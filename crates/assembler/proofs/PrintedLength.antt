@@ -19,7 +19,7 @@ use Rattle.stride_isa.specs.declared.op.OpKind.{OpKind}
 use Rattle.stride_isa.specs.declared.op.OpKind.TheVariants as kinds
 use Rattle.stride_isa.specs.declared.operand.Operand.{Operand}
 use Rattle.stride_isa.specs.declared.operand.Operand.TheVariants.{Nothing, Number, Local, Label, Variable, Array, Monitor}
-use Rattle.assembler.specs.Canonical.{canonical, canonical_lines, code_lines, decl_words, is_target, label_lines, label_name, line_of, monitor_words, op_words, operand_words, thread_lines}
+use Rattle.assembler.specs.Canonical.{canonical, code_lines, decl_words, is_target, label_lines, label_name, line_of, monitor_words, op_words, operand_words, thread_lines}
 use Rattle.assembler.proofs.PrintedForms.{IsReadable, IsPrintable, IsPrintableCode}
 use Rattle.assembler.proofs.ReadBack.{printable}
 

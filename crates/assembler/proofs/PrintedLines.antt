@@ -1,10 +1,10 @@
 -- The steps of the loops that print a program.
-use Rattle.std.proofs.Common.{◌≡◌, ℕ, ◌+◌, ◌<◌, ◌||◌, Bool, true, false, List, [], ◌∷◌, ◌++◌, length, get_or, map, take, drop, refl, ap, ◌∙◌, append_assoc}
-use Rattle.std.specs.List.{flat_map, list_any}
+use Rattle.std.proofs.Common.{◌≡◌, ℕ, ◌+◌, ◌<◌, Bool, false, List, [], ◌∷◌, ◌++◌, length, get_or, map, drop, refl, ap, ◌∙◌, append_assoc}
+use Rattle.std.specs.List.{flat_map}
 use Rattle.std.proofs.lemmas.Grind.{flat_map-append}
-use Rattle.std.proofs.lemmas.List.{take_more, drop_more, get_or_read}
-use Rattle.std.proofs.lemmas.List.Folds.{flat_map-map, list_any-append}
-use Rattle.assembler.specs.Canonical.{canonical, code_lines, decl_words, is_target, jumps_to, label_lines, line_of, monitor_words, op_words, thread_lines}
+use Rattle.std.proofs.lemmas.List.{drop_more, get_or_read}
+use Rattle.std.proofs.lemmas.List.Folds.{flat_map-map}
+use Rattle.assembler.specs.Canonical.{canonical, code_lines, decl_words, is_target, label_lines, line_of, monitor_words, op_words, thread_lines}
 use Rattle.stride_isa.specs.Listing.{Listing}
 use Rattle.stride_isa.specs.declared.op.Op.{Op}
 use Rattle.stride_isa.specs.declared.op.Op.TheVariants.{Halt}

@@ -3,8 +3,8 @@ use Rattle.std.proofs.Common.{◌≡◌, ℕ, ◌+◌, ◌<◌, ◌≤◌, ◌==
 use Rattle.std.proofs.lemmas.Bool.{eqb-true}
 use Rattle.std.specs.List.{AllByRecursion}
 use Rattle.assembler.specs.Laws.{SplitIsParts}
-use Rattle.assembler.specs.Lines.{lines, onto_first}
-use Rattle.assembler.specs.Splits.{IsOrderLine, Parts, is_order, split_from}
+use Rattle.assembler.specs.Lines.{lines}
+use Rattle.assembler.specs.Splits.{IsOrderLine, is_order, split_from}
 use Rattle.assembler.specs.Words.{words_of}
 use Rattle.assembler.specs.declared.order_split.OrderSplit.{OrderSplit}
 

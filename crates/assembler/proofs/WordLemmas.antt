@@ -1,25 +1,23 @@
 -- The steps of the loops that find a comment and a word.
-use Rattle.std.proofs.Common.{◌≡◌, ◌≢◌, ℕ, ◌+◌, ◌<◌, ◌≤◌, List, [], ◌∷◌, ◌++◌, length, get_or, take, drop, true, false, refl, sym, ap, arith, append_assoc}
-use Rattle.std.proofs.lemmas.Bool.{ne_eqb}
+use Rattle.std.proofs.Common.{◌≡◌, ℕ, ◌+◌, ◌<◌, ◌≤◌, ◌==◌, zero, suc, List, [], ◌∷◌, ◌++◌, length, get_or, take, drop, true, false, refl, sym, ap, arith, append_assoc}
+use Rattle.std.proofs.lemmas.Bool.{false_from_ne_true}
 use Rattle.std.proofs.lemmas.List.{take_more, drop_more, take_all, drop_all, append-nil}
 use Rattle.assembler.specs.Words.{is_blank, uncommented, Front, front_of, with_word, plain_words}
 
--- the first bytes and what stands before the comment of the rest
-abbrev pub uncommented_from : List ℕ → ℕ → List ℕ
-uncommented_from line i = take i line ++ uncommented (drop i line)
+-- a line is cut at its first `#`
+pub uncommented-at : (line : List ℕ) (i : ℕ) → i < length line → ((k : ℕ) → 0 ≤ k → k < i → (get_or line k 0 == 35) ≡ true → ⊥) → (get_or line i 0 == 35) ≡ true → take i line ≡ uncommented line
+uncommented-at [] i inside before hash = absurd (omega arith)
+uncommented-at (byte ∷ bytes) zero inside before hash = rw hash refl
+uncommented-at (byte ∷ bytes) (suc i) inside before hash =
+    let other = false_from_ne_true (byte == 35) (before 0 (omega arith) (omega arith)) in
+    rw other (ap (λ bs. byte ∷ bs) (uncommented-at bytes i (omega arith) (λ k low lt. before (suc k) (omega arith) (omega arith)) hash))
 
-pub uncommented_from-more : (line : List ℕ) (i : ℕ) → i < length line → get_or line i 0 ≢ 35 → uncommented_from line (i + 1) ≡ uncommented_from line i
-uncommented_from-more line i inside other =
-    let e = ne_eqb (get_or line i 0) 35 other in
-    rw (take_more line i 0 inside, drop_more line i 0 inside, e, append_assoc) refl
-
-pub uncommented_from-end : (line : List ℕ) (i : ℕ) → i < length line → get_or line i 0 ≡ 35 → uncommented_from line i ≡ take i line
-uncommented_from-end line i inside hash = rw (drop_more line i 0 inside, hash, append-nil) refl
-
-pub uncommented_from-all : (line : List ℕ) (i : ℕ) → length line ≤ i → uncommented_from line i ≡ line
-uncommented_from-all line i end = rw (take_all i line end, drop_all i line end, append-nil) refl
-
-pub ruleset comment_steps = (uncommented_from-more, uncommented_from-end, uncommented_from-all)
+-- and not at all where there is none
+pub uncommented-none : (line : List ℕ) → ((k : ℕ) → 0 ≤ k → k < length line → (get_or line k 0 == 35) ≡ true → ⊥) → line ≡ uncommented line
+uncommented-none [] none = refl
+uncommented-none (byte ∷ bytes) none =
+    let other = false_from_ne_true (byte == 35) (none 0 (omega arith) (omega arith)) in
+    rw other (ap (λ bs. byte ∷ bs) (uncommented-none bytes (λ k low lt. none (suc k) (omega arith) (omega arith))))
 
 -- a blank in front adds no word
 pub plain_words-blank : (line : List ℕ) (i : ℕ) → i < length line → is_blank (get_or line i 0) ≡ true → plain_words (drop (i + 1) line) ≡ plain_words (drop i line)

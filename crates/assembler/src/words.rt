@@ -2,17 +2,16 @@
 ghost use Rattle.std.specs.Prelude.{◌≡◌, ◌<◌, ◌≤◌, ◌∷◌, [], false, length, slice_index, IfSome, IfNone};
 ghost use Rattle.assembler.specs.Words.{uncommented, is_blank as is_blank_byte, front_of, plain_words};
 
+use memchr::memchr;
+
 /// What stands before the comment of a line.
-#[tactic(auto, using(crate::proofs::WordLemmas::comment_steps))]
 pub(crate) fn before_comment(line: &[u8]) -> &[u8]
     ensures { result.now ≡ uncommented line.now }
 {
-    for (i, byte) in line.iter().enumerate() {
-        if *byte == b'#' {
-            return line.split_at(i).0;
-        }
+    match memchr(b'#', line) {
+        Some(start) => line.split_at(start).0,
+        None => line,
     }
-    line
 }
 
 fn is_blank(byte: u8) -> bool

@@ -33,7 +33,7 @@ valid_faultless_both p valid thread at kind =
     (λ h. no_misname p valid thread at kind h.thread_is h.inside h.fault, λ h. no_stray p valid thread at kind h.thread_is h.fault)
 
 -- the kind of a rank
-kind_of_rank : ℕ → CheckKind
+pub kind_of_rank : ℕ → CheckKind
 kind_of_rank zero = TwoDepths
 kind_of_rank (suc zero) = Underflow
 kind_of_rank (suc (suc zero)) = Overflow
@@ -41,7 +41,7 @@ kind_of_rank (suc (suc (suc zero))) = RunsOff
 kind_of_rank (suc (suc (suc (suc zero)))) = BadTarget
 kind_of_rank (suc (suc (suc (suc (suc n))))) = BadName
 
-rank_back : (kind : CheckKind) → kind_of_rank (rank kind) ≡ kind
+pub rank_back : (kind : CheckKind) → kind_of_rank (rank kind) ≡ kind
 unfolding kind_of_rank
 rank_back TwoDepths = refl
 rank_back Underflow = refl

@@ -15,15 +15,14 @@ abbrev pub FaultlessIsValid : Type 0
 FaultlessIsValid =
     (p : Listing) → ((thread at : ℕ) (kind : CheckKind) → (HasNameFault p thread at kind → ⊥) × (HasDepthFault p thread at kind → ⊥)) → IsValid p
 
--- a program that has no first fault is valid: one that is not valid does not lack a first fault
-abbrev pub NoFirstFaultIsValid : Type 0
-NoFirstFaultIsValid =
-    (p : Listing) → ((thread at : ℕ) (kind : CheckKind) → IsFirstFault p thread at kind → ⊥) → IsValid p
-
 -- a program has one first fault at most
 abbrev pub OneFirstFault : Type 0
 OneFirstFault =
     (p : Listing) (thread at : ℕ) (kind : CheckKind) (other_thread other_at : ℕ) (other_kind : CheckKind) → IsFirstFault p thread at kind → IsFirstFault p other_thread other_at other_kind → (thread ≡ other_thread) × (at ≡ other_at) × (kind ≡ other_kind)
+
+-- a program has a verdict: it is valid, or it has a first fault
+abbrev pub HasVerdict : Type 0
+HasVerdict = (p : Listing) → (verdict : Option Fault) × IsVerdict p verdict
 
 -- a program has one verdict at most
 abbrev pub OneVerdict : Type 0

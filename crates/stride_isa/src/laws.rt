@@ -1,5 +1,5 @@
 //! Laws of validity and of the first fault, each as the contract of a function that does nothing.
-ghost use Rattle.stride_isa.specs.Laws.{ValidHasNoFault, FaultlessIsValid, NoFirstFaultIsValid, OneFirstFault, OneVerdict};
+ghost use Rattle.stride_isa.specs.Laws.{ValidHasNoFault, FaultlessIsValid, OneFirstFault, HasVerdict, OneVerdict};
 
 /// A valid program has no fault.
 pub fn valid_has_no_fault()
@@ -11,14 +11,14 @@ pub fn faultless_is_valid()
     ensures { FaultlessIsValid }
 {}
 
-/// A program without a first fault is valid, so an invalid one does not lack a first fault.
-pub fn no_first_fault_is_valid()
-    ensures { NoFirstFaultIsValid }
-{}
-
 /// A program has one first fault at most: one thread, position and kind.
 pub fn one_first_fault()
     ensures { OneFirstFault }
+{}
+
+/// A program has a verdict: one that is not valid has a first fault.
+pub fn some_verdict()
+    ensures { HasVerdict }
 {}
 
 /// A program has one verdict at most: it is valid, or has one first fault.
