@@ -2,9 +2,9 @@
 use Rattle.std.specs.Prelude.{◌≡◌, ℕ, List}
 use Rattle.stride_cli.specs.Answers.{Answer, IsAnswer}
 
--- no words and bytes lack an answer
+-- words and bytes have an answer
 abbrev pub AnAnswer : Type 0
-AnAnswer = (words : List (List ℕ)) (bytes : List ℕ) → ((answer : Answer) → IsAnswer words bytes answer → ⊥) → ⊥
+AnAnswer = (words : List (List ℕ)) (bytes : List ℕ) → (answer : Answer) × IsAnswer words bytes answer
 
 -- words and bytes have one answer at most
 abbrev pub OneAnswer : Type 0

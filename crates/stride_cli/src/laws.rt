@@ -1,11 +1,11 @@
 //! Laws of answers, each as the contract of a function that does nothing.
 ghost use Rattle.stride_cli.specs.Laws.{AnAnswer, OneAnswer};
 
-/// No words and bytes of an input lack an answer.
+/// The words and the bytes of an input have an answer.
 pub fn an_answer()
     ensures { AnAnswer }
 {
-    stride_isa::no_first_fault_is_valid();
+    stride_isa::some_verdict();
 }
 
 /// The words and the bytes of an input have one answer at most.

@@ -2,4 +2,4 @@ use Rattle.stride_cli.proofs.AnAnswer.{an_answer as an_answer_by}
 use Rattle.stride_cli.proofs.laws.an_answer.Goals as goal
 
 pub returns : goal.returns
-returns c = an_answer_by c.no_first_fault_is_valid.ensures
+returns c = an_answer_by c.some_verdict.ensures
