@@ -11,10 +11,8 @@ use crate::lines::take_line;
 use crate::numbers::number_up_to;
 use crate::words::{before_comment, take_word};
 use std::alloc::Global;
+use stride_base::limits::ORDER_LIMIT;
 use stride_base::{List, NoMemory};
-
-/// The most members of an order.
-const ORDER_LIMIT: usize = 134_217_728;
 
 /// A thread and how many times in a row it is named.
 #[derive(Clone, Copy)]

@@ -4,10 +4,8 @@ use std::alloc::{AllocError, Global};
 use std::fmt::Write;
 use std::process::Abort;
 use std::test::Fail;
+use stride_base::limits::INPUT_LIMIT;
 use stride_isa::{AddError, Name, check};
-
-/// The most bytes of a text.
-const INPUT_LIMIT: usize = 268_435_456;
 
 /// The refusal of a text, or `None` where it is read.
 fn refusal(rt: &impl Abort, alloc: Global, text: &[u8]) -> Option<AsmError> {
@@ -64,7 +62,7 @@ fn a_text_is_read(rt: HostRuntime) -> Result<(), Fail> {
 #[test]
 fn a_program_is_printed(rt: HostRuntime) -> Result<(), Fail> {
     let text =
-        b"var x 5\narray row 2 0\nmonitor m\nthread\nL0:\nenter m\npush 1\nxchg x\naddto x\npush 2\ncas x\njz L8\njump L0\nL8:\nexit m\nhalt\n";
+        b"var x 5\narray a 2 0\nmonitor m\nthread\nL0:\nenter m\npush 1\nxchg x\naddto x\npush 2\ncas x\njz L8\njump L0\nL8:\nexit m\nhalt\n";
     let program = assemble(rt.alloc(), text)?;
     let checked = check(rt.alloc(), program)?;
     assert_eq!(rt;

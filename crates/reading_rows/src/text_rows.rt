@@ -6,10 +6,11 @@ use std::alloc::{AllocError, Global};
 use std::fmt::Write;
 use std::process::Abort;
 use std::test::Fail;
+use stride_base::limits::INPUT_LIMIT;
 
 /// The refusal of a text by `assemble`, or `None` where it is read.
 fn told(rt: &impl Abort, alloc: Global, text: &[u8]) -> Result<Option<(AsmKind, u32)>, Fail> {
-    assert!(rt; text.len() <= 268_435_456);
+    assert!(rt; text.len() <= INPUT_LIMIT);
     match assemble(alloc, text) {
         Ok(_) => Ok(None),
         Err(AsmError::Bad { kind, line }) => Ok(Some((kind, line))),

@@ -194,13 +194,7 @@ fn recorded_threads_run_again(rt: HostRuntime) -> Result<(), Fail> {
         (WRITING, &[0, 0], 1, b"", End::Stopped { pc: 2 }),
         (WRITING, &[0], 0, b"", End::Stopped { pc: 1 }),
         (WRITING, &[], 0, b"", End::Stopped { pc: 1 }),
-        (
-            UPDATING,
-            &[0, 0, 0, 0, 0, 0, 0],
-            2,
-            b"3\n8\n",
-            End::Halted,
-        ),
+        (UPDATING, &[0, 0, 0, 0, 0, 0, 0], 2, b"3\n8\n", End::Halted),
         (
             TRAPPING,
             &[0, 0, 0, 0, 0],

@@ -54,7 +54,8 @@ fn cut_off_everywhere<R: Threads + Wait + Sync + Abort>(
 
 #[test]
 fn bundles_are_shown_and_upgraded(rt: HostRuntime) -> Result<(), Fail> {
-    let shown: &[u8] = b"threads 1\nfuel 100000\nlogs\n0 write 1\n0 read 4 1\ntext\nvar x 0\nthread\npush 4\nwrite x\nread x\nprint\nhalt\n";
+    let shown: &[u8] =
+        b"threads 1\nfuel 100000\nlogs\n0 write 1\n0 read 4 1\ntext\nvar x 0\nthread\npush 4\nwrite x\nread x\nprint\nhalt\n";
     let rows = [
         row(
             &["show"],

@@ -96,7 +96,12 @@ fn the_first_refusal_is_told(rt: HostRuntime) -> Result<(), Fail> {
         ),
         row(&[], PUBLISH, b"order\n0 1\n", Ending::Usage),
         row(&["run"], PUBLISH, b"order\n0 1\n", Ending::Usage),
-        row(&["follow", "follow"], PUBLISH, b"order\n0 1\n", Ending::Usage),
+        row(
+            &["follow", "follow"],
+            PUBLISH,
+            b"order\n0 1\n",
+            Ending::Usage,
+        ),
         row(&["Check"], b"thread\nhalt\n", b"", Ending::Usage),
     ];
     play_all(&rt, rt.alloc(), &rows)

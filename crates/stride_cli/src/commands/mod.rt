@@ -15,9 +15,9 @@ use check::check_text;
 use follow::follow_schedule;
 use show::show_bundle;
 use sim::simulate;
-use upgrade::upgrade_bundle;
 use std::alloc::Global;
 use stride_base::List;
+use upgrade::upgrade_bundle;
 
 /// The report of a command on an input that was read.
 pub fn report_of(alloc: Global, command: Command, bytes: &[u8]) -> Result<List<u8>, Refusal>
