@@ -27,7 +27,7 @@ find_name-other : (name : List ℕ) (names : List (List ℕ)) (last : List ℕ) 
 find_name-other name [] last other = rw other refl
 find_name-other name (n ∷ names) last other = rw (find_name-other name names last other) refl
 
--- one more name, which is not there yet, is at the position behind the others
+-- one more name, which is not there yet, is at the position after the others
 find_name-push : (names : List (List ℕ)) (last name : List ℕ) → find_name last names ≡ None → update bytes_eq (λ w. find_name w names) last (Some (length names)) name ≡ find_name name (names ++ last ∷ [])
 find_name-push names last name none =
     at (bytes_eq last name) refl where

@@ -6,7 +6,7 @@ use Rattle.std.proofs.lemmas.Bool.{le-ltb, ltb-true}
 use Rattle.std.proofs.lemmas.List.{drop_more}
 use Rattle.assembler.specs.Numbers.{digits_after, below, number}
 
--- the number below the limit that the digits from here on make behind this value
+-- the number below the limit that the digits from here on make after this value
 abbrev pub number_from : ℕ → ℕ → List ℕ → Option ℕ
 number_from limit value digits = option_and_then (below limit) (digits_after value digits)
 
@@ -14,7 +14,7 @@ none_from_digits : (is_digit : Bool) (limit : ℕ) (value : Option ℕ) → opti
 none_from_digits true limit value none = none
 none_from_digits false limit value none = refl
 
--- digits behind a value never make it smaller
+-- digits after a value never make it smaller
 number_from-past : (limit value : ℕ) (digits : List ℕ) → limit ≤ value → number_from limit value digits ≡ None
 number_from-past limit value [] past = let e = le-ltb value limit past in rw e refl
 number_from-past limit value (byte ∷ bytes) past =

@@ -88,7 +88,7 @@ read_said before rest w (Some said) e further =
     let long : length (members_in (before ++ w ∷ [])) ≡ length (members_in before) + said.times = rw one (simp (length-append, length-replicate)) in
     rw (e, long) (read_if (ltb order_limit (length (members_in before) + said.times)) w.line _ _ (members_in before ++ members_of said) rest (rw (append_assoc before, one) at further))
 
--- the words from a place on are read behind the members of the words before as they are read one after another
+-- the words from a place on are read after the members of the words before as they are read one after another
 rest_of-read : (before rest : List OrderWord) → rest_of before rest ≡ with_words (members_in before) rest
 rest_of-read before [] = rw (append-nil before) refl
 rest_of-read before (w ∷ rest) = read_said before rest w (repeated_of w.word) refl (rest_of-read (before ++ w ∷ []) rest)

@@ -40,12 +40,12 @@ operand_line p op (Monitor monitor) = NamingLine (kind op) (slice_index_or p.mon
 abbrev pub op_line : Listing → Op → Form
 op_line p op = operand_line p op (operand op)
 
--- the lines from here on, behind the label line of a position where there is one
+-- the lines from here on, after the label line of a position where there is one
 abbrev pub label_forms : Bool → ℕ → List Form → List Form
 label_forms true at rest = LabelLine (label_name at) ∷ rest
 label_forms false at rest = rest
 
--- the lines of the instructions from a position of the code on, and the lines behind them
+-- the lines of the instructions from a position of the code on, and the lines after them
 abbrev pub code_forms : Listing → List Op → ℕ → List Op → List Form → List Form
 code_forms p code at [] rest = rest
 code_forms p code at (op ∷ ops) rest = label_forms (is_target code at) at (op_line p op ∷ code_forms p code (at + 1) ops rest)
@@ -55,12 +55,12 @@ abbrev pub threads_forms : Listing → List (List Op) → List Form
 threads_forms p [] = []
 threads_forms p (code ∷ codes) = ThreadLine ∷ code_forms p code 0 code (threads_forms p codes)
 
--- what the printed lines of monitors say, and the lines behind them
+-- what the printed lines of monitors say, and the lines after them
 abbrev pub monitors_forms : List (List ℕ) → List Form → List Form
 monitors_forms [] rest = rest
 monitors_forms (name ∷ names) rest = MonitorLine name ∷ monitors_forms names rest
 
--- what the printed lines of declarations say, and the lines behind them
+-- what the printed lines of declarations say, and the lines after them
 abbrev pub decls_forms : List Decl → List Form → List Form
 decls_forms [] rest = rest
 decls_forms (d ∷ decls) rest = decl_line d.name d.shape d.start ∷ decls_forms decls rest

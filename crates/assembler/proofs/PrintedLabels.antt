@@ -71,6 +71,6 @@ stands_before-op form is name before =
     let no_label = is.no_label name in
     rw (no_thread, no_label) refl
 
--- behind an instruction the lines of the thread are the same
+-- after an instruction the lines of the thread are the same
 pub thread_lines-op : (form : Form) → IsOpLine form → (before rest : List Form) → thread_lines (form ∷ before) rest ≡ thread_lines before (form ∷ rest)
 thread_lines-op form is before rest = let no_thread = is.no_thread in rw no_thread refl

@@ -28,7 +28,7 @@ abbrev size_of : List (List ℕ) → ℕ
 size_of [] = 0
 size_of (word ∷ words) = length word + 1 + size_of words
 
--- a line has its words' bytes, and one more behind each
+-- a line has its words' bytes, and one more after each
 line_size : (word : List ℕ) (words : List (List ℕ)) → length (line_of (word ∷ words)) ≡ size_of (word ∷ words)
 line_size word [] = omega (arith, length-append word (10 ∷ []))
 line_size word (next ∷ words) =
@@ -53,7 +53,7 @@ spelling_short k = omega arith
 decimal_short : (n : ℕ) → n < 2 ^ 64 → length (decimal n) ≤ 20
 decimal_short n fits = length-decimal-le 20 n (omega arith) (omega arith) fits
 
--- an operand has 32 bytes at most, and one behind it
+-- an operand has 32 bytes at most, and one after it
 operand_short : (p : Listing) (named : Operand) → IsReadable p named → size_of (operand_words p named) ≤ 33
 operand_short p Nothing fits = omega arith
 operand_short p (Number word) fits = omega (arith, decimal_short word fits)

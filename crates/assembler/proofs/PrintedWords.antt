@@ -1,4 +1,4 @@
--- Words that are printed, with one space between two of them and a line feed behind each line, are read as the same words.
+-- Words that are printed, with one space between two of them and a line feed after each line, are read as the same words.
 use Rattle.std.proofs.Common.{◌≡◌, ℕ, ◌==◌, ◌&&◌, Bool, true, false, not, List, [], ◌∷◌, ◌++◌, map, flat_map, refl, ap, ◌∙◌, append_assoc}
 use Rattle.std.proofs.lemmas.Bool.{and_parts, and_from, not-true}
 use Rattle.std.specs.List.{list_all, AllByRecursion, join_with_byte}

@@ -88,7 +88,7 @@ reading-label : (targeted : Bool) (p : Listing) (at : ℕ) (before rest : List F
 reading-label true p at before rest begun fresh = reading-line before p (LabelLine (label_name at)) rest p (rw (begun, fresh) refl) refl
 reading-label false p at before rest begun fresh = refl
 
--- behind the label line of a position the lines of the thread are the same
+-- after the label line of a position the lines of the thread are the same
 thread_lines-label : (targeted : Bool) (at : ℕ) (before rest : List Form) → thread_lines (behind_label targeted at before) rest ≡ thread_lines before (label_forms targeted at rest)
 thread_lines-label true at before rest = refl
 thread_lines-label false at before rest = refl
@@ -107,7 +107,7 @@ reading-op p threads code op lines before rest seen placed room =
     (refusal-op labels p (threads ++ code ∷ []) op here (has_thread-push p threads code) full)
     (added-op labels p (threads ++ code ∷ []) op here ∙ ap (with_threads p) (push_last-push threads code op))
 
--- the lines of the instructions of a thread from a position on add these instructions. Of the lines before and behind only
+-- the lines of the instructions of a thread from a position on add these instructions. Of the lines before and after only
 -- this is known: the thread's lines are its printed lines, and no label from this position on stood before
 reading-code : (p : Listing) (code : List Op) (after : List Form) (goal : Result Listing LineFault) (threads : List (List Op)) → ((before : List Form) → reading before (with_threads p (threads ++ code ∷ [])) after ≡ goal) → (n : ℕ) (front ops : List Op) (before : List Form) → front ++ ops ≡ code → thread_lines before (code_forms p code n ops after) ≡ code_forms p code 0 code after → ((m : ℕ) → n ≤ m → m < 2 ^ 64 → stands_before (label_name m) before ≡ false) → AllByRecursion (IsPlaced (places_in p code after) p) ops → instruction_count threads + length front + length ops ≤ 65536 → n + length ops < 2 ^ 64 → reading before (with_threads p (threads ++ front ∷ [])) (code_forms p code n ops after) ≡ goal
 reading-code p code after goal threads finish n front [] before whole seen fresh placed room small =

@@ -7,7 +7,7 @@ use Rattle.assembler.specs.Labels.{labels_at}
 use Rattle.assembler.specs.Programs.{LineFault, refusal, added, made, or_else, first_fault, unless_fault, program_of}
 use Rattle.assembler.specs.declared.asm_error.AsmKind.{AsmKind}
 
--- the fault of a line with this number where there is one, or else what comes behind it
+-- the fault of a line with this number where there is one, or else what comes after it
 abbrev pub unless_refused : Option AsmKind → ℕ → Result Listing LineFault → Result Listing LineFault
 unless_refused None line rest = rest
 unless_refused (Some kind) line rest = Err (record { kind = kind; line = line })
@@ -18,7 +18,7 @@ reading before p [] = Ok p
 reading before p (form ∷ rest) =
     unless_refused (refusal (labels_at before (form ∷ rest)) p form) (length before + 1) (reading (form ∷ before) (added (labels_at before (form ∷ rest)) p form) rest)
 
--- a refused line is the first fault, and one that is not leaves it to those behind it
+-- a refused line is the first fault, and one that is not leaves it to those after it
 unless_refused-is : (kind : Option AsmKind) (line : ℕ) (fault : Option LineFault) (p : Listing) → unless_refused kind line (unless_fault fault p) ≡ unless_fault (or_else (option_map (λ k. record { kind = k; line = line }) kind) fault) p
 unless_refused-is None line fault p = refl
 unless_refused-is (Some kind) line fault p = refl
@@ -37,7 +37,7 @@ pub program_of-reading : (forms : List Form) → program_of forms ≡ reading []
 program_of-reading forms =
     sym (reading-made [] forms ∙ ap (λ lines. unless_fault (first_fault [] forms) (made lines [])) (append-nil (reverse forms)))
 
--- a line that is not refused adds what it adds, and reading goes on behind it
+-- a line that is not refused adds what it adds, and reading goes on after it
 pub reading-line : (before : List Form) (p : Listing) (form : Form) (rest : List Form) (next : Listing) → refusal (labels_at before (form ∷ rest)) p form ≡ None → added (labels_at before (form ∷ rest)) p form ≡ next → reading before p (form ∷ rest) ≡ reading (form ∷ before) next rest
 reading-line before p form rest next free same =
     let after = reading (form ∷ before) (added (labels_at before (form ∷ rest)) p form) rest in

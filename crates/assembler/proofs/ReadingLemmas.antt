@@ -19,7 +19,7 @@ abbrev pub unless_wrong : Option AsmKind → ℕ → Result Listing LineFault �
 unless_wrong None number result = result
 unless_wrong (Some kind) number result = Err (record { kind = kind; line = number })
 
--- what lines give behind others, by which the program is p
+-- what lines give after others, by which the program is p
 abbrev pub reading : List Form → Listing → List Form → Result Listing LineFault
 reading before p [] = Ok p
 reading before p (form ∷ rest) =
@@ -34,7 +34,7 @@ reading-made before [] = refl
 reading-made before (form ∷ rest) =
     unless_wrong-fault (refusal (labels_at before (form ∷ rest)) (made before (form ∷ rest)) form) (length before + 1) (first_fault (form ∷ before) rest) (made (reverse_aux rest (form ∷ before)) []) _ (reading-made (form ∷ before) rest)
 
--- how far a text is read: behind some lines the rest of the text gives what all of it spells
+-- how far a text is read: after some lines the rest of the text gives what all of it spells
 pub record IsReading (assembly : Assembly) (labels : ThreadLabels) (number : ℕ) (rest text : List ℕ) : Type 0 where
   pub before : List Form
   pub count : number ≡ length before + 1

@@ -102,7 +102,7 @@ second_nil : (xs ys : List ℕ) → xs ++ ys ≡ [] → ys ≡ []
 second_nil [] ys e = e
 second_nil (x ∷ xs) ys e = absurd (cc)
 
--- the first line is not `order`, and the lines behind it have these parts
+-- the first line is not `order`, and the lines after it have these parts
 parts_later : (rest : List ℕ) (total offset number : ℕ) (s : OrderSplit) (c : Cut rest) → total ≡ offset + length rest → is_order (words_of c.line) ≡ false → PartsFrom c.after (min (offset + length c.line + 1) total) (number + 1) s → PartsFrom rest offset number s
 parts_later rest total offset number s c long is p = elim c.whole [
   | inl e ↦

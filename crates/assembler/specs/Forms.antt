@@ -42,7 +42,7 @@ abbrev pub keyword_of : List ℕ → Keyword
 keyword_of word =
     if bytes_eq word (codes "var") then keywords.Var else (if bytes_eq word (codes "array") then keywords.Array else (if bytes_eq word (codes "monitor") then keywords.Monitor else (if bytes_eq word (codes "thread") then keywords.Thread else keyword_of_kind (kind_named word))))
 
--- the words behind the first of a line, as far as any line has some
+-- the words after the first of a line, as far as any line has some
 pub data Following : Type 0 where
   NoWord : Following
   OneWord : List ℕ → Following
@@ -50,7 +50,7 @@ pub data Following : Type 0 where
   ThreeWords : List ℕ → List ℕ → List ℕ → Following
   MoreWords : Following
 
--- how the words behind the first go on
+-- how the words after the first go on
 abbrev pub following : List (List ℕ) → Following
 following [] = NoWord
 following (first ∷ []) = OneWord first
@@ -58,7 +58,7 @@ following (first ∷ second ∷ []) = TwoWords first second
 following (first ∷ second ∷ third ∷ []) = ThreeWords first second third
 following (first ∷ second ∷ third ∷ fourth ∷ words) = MoreWords
 
--- a line that has no word behind its first
+-- a line that has no word after its first
 abbrev pub alone : Form → Following → Form
 alone form NoWord = form
 alone form words = Malformed
@@ -79,19 +79,19 @@ above_zero value = if nat_le 1 value then Some value else None
 abbrev pub size_number : List ℕ → Option ℕ
 size_number word = option_and_then above_zero (number (array_limit + 1) word)
 
--- the declaration of a variable, by the words behind `var`
+-- the declaration of a variable, by the words after `var`
 abbrev pub var_form : Following → Form
 var_form (OneWord name) = named (λ n. VarLine n (Some 0)) name
 var_form (TwoWords name start) = named (λ n. VarLine n (word_number start)) name
 var_form words = Malformed
 
--- the declaration of an array, by the words behind `array`
+-- the declaration of an array, by the words after `array`
 abbrev pub array_form : Following → Form
 array_form (TwoWords name size) = named (λ n. ArrayLine n (size_number size) (Some 0)) name
 array_form (ThreeWords name size start) = named (λ n. ArrayLine n (size_number size) (word_number start)) name
 array_form words = Malformed
 
--- the only word behind the first of a line, where it is a name
+-- the only word after the first of a line, where it is a name
 abbrev pub only_name : Following → Option (List ℕ)
 only_name (OneWord word) = if is_name word then Some word else None
 only_name words = None
@@ -101,16 +101,16 @@ abbrev pub line_named : (List ℕ → Form) → Option (List ℕ) → Form
 line_named line (Some name) = line name
 line_named line None = Malformed
 
--- a line that has one name behind its first word
+-- a line that has one name after its first word
 abbrev pub name_form : (List ℕ → Form) → Following → Form
 name_form line words = line_named line (only_name words)
 
--- an instruction that has one number below the limit behind its name
+-- an instruction that has one number below the limit after its name
 abbrev pub number_form : OpKind → ℕ → Following → Form
 number_form kind limit (OneWord word) = WholeLine (option_map (op_with kind) (number limit word))
 number_form kind limit words = Malformed
 
--- an instruction, by the class of its operand and the words behind its name
+-- an instruction, by the class of its operand and the words after its name
 abbrev pub operand_form : OperandClass → OpKind → Following → Form
 operand_form classes.Nothing kind words = alone (WholeLine (Some (op_with kind 0))) words
 operand_form classes.Number kind words = number_form kind (2 ^ 64) words
@@ -125,7 +125,7 @@ abbrev pub label_form : List ℕ → Form
 label_form word =
     if slice_index word (length word - 1) == 58 then named LabelLine (take (length word - 1) word) else Malformed
 
--- a line, by its first word and the words behind it
+-- a line, by its first word and the words after it
 abbrev pub form_by : Keyword → List ℕ → Following → Form
 form_by keywords.Var word words = var_form words
 form_by keywords.Array word words = array_form words

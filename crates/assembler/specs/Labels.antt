@@ -31,13 +31,13 @@ stands_before name [] = false
 stands_before name (form ∷ before) =
     if is_thread_line form then false else bears name form || stands_before name before
 
--- the lines of the thread from its first on, and all lines behind it, where the lines before this place, the last of which
+-- the lines of the thread from its first on, and all lines after it, where the lines before this place, the last of which
 -- stands first, and the lines from it on are these
 abbrev pub thread_lines : List Form → List Form → List Form
 thread_lines [] rest = rest
 thread_lines (form ∷ before) rest = if is_thread_line form then rest else thread_lines before (form ∷ rest)
 
--- what a line sees of the labels of its thread: the position of each, behind it or before it, and whether an earlier line
+-- what a line sees of the labels of its thread: the position of each, after it or before it, and whether an earlier line
 -- bears it
 pub record Labels : Type 0 where
   pub place : List ℕ → Option ℕ

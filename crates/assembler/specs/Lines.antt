@@ -6,7 +6,7 @@ abbrev pub onto_first : ℕ → List (List ℕ) → List (List ℕ)
 onto_first byte [] = (byte ∷ []) ∷ []
 onto_first byte (piece ∷ pieces) = (byte ∷ piece) ∷ pieces
 
--- the lines, without their line feeds: a line feed ends the line before it, and behind a last line feed there is
+-- the lines, without their line feeds: a line feed ends the line before it, and after a last line feed there is
 -- no further line
 abbrev pub lines : List ℕ → List (List ℕ)
 lines [] = []

@@ -2,7 +2,7 @@
 use Rattle.std.specs.Prelude.{ℕ, ◌+◌, ◌-◌, ◌*◌, nat_lt, if◌then◌else◌, List, [], ◌∷◌, Option, Some, None, option_and_then}
 use Rattle.std.specs.Char.{is_ascii_digit}
 
--- the value of digits behind those that have this value; none where a byte is no digit
+-- the value of digits after those that have this value; none where a byte is no digit
 abbrev pub digits_after : ℕ → List ℕ → Option ℕ
 digits_after value [] = Some value
 digits_after value (byte ∷ bytes) = if is_ascii_digit byte then digits_after (value * 10 + (byte - 48)) bytes else None

@@ -1,4 +1,4 @@
--- Orders read word by word, behind the members that were read before.
+-- Orders read word by word, after the members that were read before.
 use Rattle.std.specs.Prelude.{ℕ, ◌+◌, List, [], ◌∷◌, ◌++◌, length, map, nat_lt, if◌then◌else◌, Option, Some, None, Result, Ok, Err}
 use Rattle.assembler.specs.Orders.{OrderWord, Repeated, members_of, order_limit, repeated_of}
 use Rattle.assembler.specs.Programs.{LineFault}
@@ -13,7 +13,7 @@ with_said order line (Some said) =
 abbrev pub with_word : List ℕ → OrderWord → Result (List ℕ) LineFault
 with_word order w = with_said order w.line (repeated_of w.word)
 
--- a result where it is given, and what comes behind it
+-- a result where it is given, and what comes after it
 abbrev pub and_then : {X Y E : Type 0} → Result X E → (X → Result Y E) → Result Y E
 and_then (Ok x) next = next x
 and_then (Err e) next = Err e

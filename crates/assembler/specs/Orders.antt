@@ -14,7 +14,7 @@ use Rattle.assembler.specs.declared.asm_error.AsmKind.TheVariants.{BadNumber, To
 abbrev pub order_limit : ℕ
 order_limit = 134217728
 
--- a word before its first `*`, and what stands behind that, if there is one
+-- a word before its first `*`, and what stands after that, if there is one
 pub record Halves : Type 0 where
   pub front : List ℕ
   pub back : Option (List ℕ)
@@ -59,12 +59,12 @@ words_from_line number (line ∷ rest) = map (λ word. record { line = number; w
 abbrev pub members_in : List OrderWord → List ℕ
 members_in words = flat_map (λ w. unwrap_or (option_map members_of (repeated_of w.word)) []) words
 
--- what is wrong with a word behind others: it is of another form, or the order has too many members with it
+-- what is wrong with a word after others: it is of another form, or the order has too many members with it
 abbrev pub word_refusal : List OrderWord → OrderWord → Option AsmKind
 word_refusal before w =
     if is_none (repeated_of w.word) then Some BadNumber else (if nat_lt order_limit (length (members_in (before ++ w ∷ []))) then Some TooMany else None)
 
--- the first word from a place on that is refused, behind these words
+-- the first word from a place on that is refused, after these words
 abbrev pub first_word_fault : List OrderWord → List OrderWord → Option LineFault
 first_word_fault before [] = None
 first_word_fault before (w ∷ rest) =

@@ -136,7 +136,7 @@ unless_fault (Some fault) x = Err fault
 abbrev pub forms_in : List ℕ → List Form
 forms_in text = map (λ line. form_of (words_of line)) (lines text)
 
--- the program that lines make, or their first fault: each line is judged between all lines before it and all lines behind it
+-- the program that lines make, or their first fault: each line is judged between all lines before it and all lines after it
 abbrev pub program_of : List Form → Result Listing LineFault
 program_of forms = unless_fault (first_fault [] forms) (made (reverse forms) [])
 

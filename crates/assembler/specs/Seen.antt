@@ -14,7 +14,7 @@ use Rattle.assembler.specs.declared.operands.Operands.{Operands}
 use Rattle.assembler.specs.declared.operands.Operands.TheVariants.{Nothing, One, Two, Three, More}
 use Rattle.assembler.specs.declared.thread_labels.ThreadLabels.{ThreadLabels}
 
--- the words that are behind the first of a line
+-- the words that are after the first of a line
 abbrev pub words_seen : Operands → Following
 words_seen Nothing = NoWord
 words_seen (One first) = OneWord first.now
@@ -45,7 +45,7 @@ IsWellDeclared form = Unit {0}
 abbrev pub labels_seen : ThreadLabels → Labels
 labels_seen labels = record { place = λ name. position_of labels.places name; stands = λ name. is_some (position_of labels.passed name) }
 
--- the labels that the line behind one sees, where that one sees these and the lines behind it are the rest
+-- the labels that the line after one sees, where that one sees these and the lines after it are the rest
 abbrev pub labels_behind : Labels → Form → List Form → Labels
 labels_behind labels form rest =
     if is_thread_line form then labels_at [] rest else record { place = labels.place; stands = λ name. bears name form || labels.stands name }

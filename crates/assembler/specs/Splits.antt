@@ -32,7 +32,7 @@ pub record Parts (text : List ℕ) (s : OrderSplit) : Type 0 where
   pub is_line : ((line ≡ []) × (order ≡ [])) ⊎ IsOrderLine line
 
 -- the split of lines that begin at this offset and number in a text of this length: by the first whose only word is
--- `order`, or behind them all
+-- `order`, or after them all
 abbrev pub split_from : ℕ → ℕ → ℕ → List (List ℕ) → OrderSplit
 split_from total offset number [] = record { program_end = total; order_start = total; order_line = number }
 split_from total offset number (line ∷ rest) =

@@ -15,7 +15,7 @@ abbrev pub with_word : List ℕ → List (List ℕ) → List (List ℕ)
 with_word [] words = words
 with_word (byte ∷ bytes) words = (byte ∷ bytes) ∷ words
 
--- the word at the front of a line, which is empty where a blank or nothing stands there, and the words behind it
+-- the word at the front of a line, which is empty where a blank or nothing stands there, and the words after it
 pub record Front : Type 0 where
   pub word : List ℕ
   pub behind : List (List ℕ)

@@ -16,7 +16,7 @@ use crate::thread_labels::ThreadLabels;
 use std::alloc::Global;
 use stride_isa::Program;
 
-// Reads a line, behind which the text goes on with `after`.
+// Reads a line, after which the text goes on with `after`.
 fn read_line<'a>(
     alloc: Global,
     assembly: &mut Assembly<'a>,

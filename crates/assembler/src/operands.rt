@@ -1,4 +1,4 @@
-//! `Operands`: the words behind the first of a line.
+//! `Operands`: the words after the first of a line.
 ghost use Rattle.std.specs.Prelude.{◌≡◌};
 ghost use Rattle.assembler.specs.Forms.{following};
 ghost use Rattle.assembler.specs.Seen.{words_seen};
@@ -6,7 +6,7 @@ ghost use Rattle.assembler.specs.Words.{plain_words};
 
 use crate::words::take_word;
 
-/// The words behind the first of a line, as far as any line has some.
+/// The words after the first of a line, as far as any line has some.
 #[derive(Clone, Copy, Debug)]
 pub(crate) enum Operands<'a> {
     Nothing,

@@ -21,7 +21,7 @@ struct Run {
     times: usize,
 }
 
-/// What stands before the first `*` of a word, and what stands behind it, if there is one.
+/// What stands before the first `*` of a word, and what stands after it, if there is one.
 #[tactic(auto, using(crate::proofs::OrderLemmas::star_steps))]
 fn split_star(word: &[u8]) -> (&[u8], Option<&[u8]>)
     ensures front { result.0.now ≡ (halves word.now).front }

@@ -13,7 +13,7 @@ use std::alloc::Global;
 use stride_base::{List, NoMemory};
 use stride_isa::{Checked, Decl, Name, Op, Operand, Shape, kind_of, name_of, operand_of};
 
-// A word behind others of its line.
+// A word after others of its line.
 fn put_word(text: &mut List<u8>, word: &[u8]) -> Result<(), NoMemory>
     ensures { OnOk result (text.new.items ≡ text.old.items ++ 32 ∷ word.now) }
 {

@@ -17,7 +17,7 @@ fn is_thread(line: Line<'_>) -> bool
     matches!(line, Line::Thread)
 }
 
-// The position of the next instruction behind a line, where it had this position before it.
+// The position of the next instruction after a line, where it had this position before it.
 fn position_behind(line: Line<'_>, position: u32) -> u32
     requires { position + 1 < 2 ^ 32 }
     ensures { result ≡ (if is_instruction (form line.entry) then position + 1 else position) }
@@ -85,7 +85,7 @@ impl<'a> ThreadLabels<'a> {
         Ok(ThreadLabels { places, passed })
     }
 
-    /// The position of the label of this name, behind this place or before it.
+    /// The position of the label of this name, after this place or before it.
     pub(crate) fn place(&self, name: &[u8]) -> Option<u32>
         ensures { result ≡ (labels_seen self.now).place name.now }
     {
@@ -99,7 +99,7 @@ impl<'a> ThreadLabels<'a> {
         self.passed.position(name).is_some()
     }
 
-    /// Passes a line, behind which this text stands.
+    /// Passes a line, after which this text stands.
     pub(crate) fn pass(
         &mut self,
         alloc: Global,

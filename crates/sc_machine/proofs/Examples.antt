@@ -38,7 +38,7 @@ refusals : (refused_place sends 50 (0 ∷ 0 ∷ []) ≡ Some 1) × (refused_plac
 unfolding local_steps settled sc_step sc_run printed_in settled_lines settle turn started ready locals_of expand_starts expand whole run_of
 refusals = (refl, refl, refl)
 
--- a variable, an array of two cells behind it, and two monitors
+-- a variable, an array of two cells after it, and two monitors
 abbrev names : List (List Op) → Listing
 names threads = record {
   decls = record { name = codes "x"; shape = Single; start = 0 } ∷ record { name = codes "a"; shape = Array 2; start = 9 } ∷ [];

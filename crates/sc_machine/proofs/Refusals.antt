@@ -28,7 +28,7 @@ find-next f a (suc n) =
     add_one_is : a + 1 ≡ suc a
     add_one_is = omega arith
 
--- whether the turns of a front of the list come to a machine that is not enabled for its last member
+-- whether the turns of a prefix of the list come to a machine that is not enabled for its last member
 abbrev fails_by : Listing → ℕ → List ℕ → Machine → ℕ → Bool
 fails_by p fuel ts m place = not (is_some (turns p fuel (take (place + 1) ts) m))
 

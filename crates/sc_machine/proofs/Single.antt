@@ -138,7 +138,7 @@ sc_run-expand_starts p fuel i (suc k) ys m within =
     ∙ ap (λ x. option_and_then (sc_run p fuel (rest ++ ys)) x) (sc_run-locals p fuel i m (omega arith))
     ∙ sc_run-expand_starts p fuel (i + 1) k ys m' (omega (arith, length-settle p fuel i m))
 
--- a run of a schedule is its whole turns behind the local starts
+-- a run of a schedule is its whole turns after the local starts
 pub run_of-turns : (p : Listing) (fuel : ℕ) (schedule : List ℕ) → run_of p fuel schedule ≡ turns p fuel schedule (ready p fuel)
 unfolding run_of whole ready
 run_of-turns p fuel schedule =

@@ -8,7 +8,7 @@ use Rattle.sc_machine.specs.Machine.{Machine, thread_at, may_pass, can}
 use Rattle.sc_machine.specs.Schedule.{settled_lines, turn, turned, turns, stuck_place, ready, thread_numbers, run_of, refused_place, finished, replayed, outputs}
 use Rattle.sc_machine.specs.Transcript.{transcript_bytes, line_bytes, bytes_of, tagged}
 
--- the single steps of a schedule do what its whole turns do, behind the local starts
+-- the single steps of a schedule do what its whole turns do, after the local starts
 abbrev pub TurnsAreSteps : Type 0
 TurnsAreSteps = (p : Listing) (fuel : ℕ) (schedule : List ℕ) → run_of p fuel schedule ≡ turns p fuel schedule (ready p fuel)
 

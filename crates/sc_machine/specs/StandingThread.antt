@@ -19,7 +19,7 @@ stop_here s = stop_of s.program s.number s.state
 abbrev pub started_at : Listing → ℕ → ℕ → Standing
 started_at p fuel number = record { program = p; number = number; fuel = fuel; state = settled p fuel number start_thread }
 
--- the thread behind its shared instruction, given the word that this reads, where it stands next
+-- the thread after its shared instruction, given the word that a read or an update meets, where it stands next
 abbrev pub standing_after : ℕ → Standing → Standing
 standing_after word s = record s { state = settled s.program s.fuel s.number (answered s.program s.fuel s.number word s.state) }
 

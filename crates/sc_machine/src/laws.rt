@@ -1,7 +1,7 @@
 //! Laws of the machine, over its definitions alone. Each is the contract of a function that does nothing.
 ghost use Rattle.sc_machine.specs.Laws.{TurnsAreSteps, RefusedWhereStuck, TurnsJoin, MadeAlongTurns, RefusedAlongTurns, StartsSettle, TurnByStop, SettledStands, SettledPrints, OutputsAreLines};
 
-/// The single steps of a schedule do what its whole turns do, behind the local starts.
+/// The single steps of a schedule do what its whole turns do, after the local starts.
 pub fn turns_are_steps()
     ensures { TurnsAreSteps }
 {}

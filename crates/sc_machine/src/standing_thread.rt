@@ -68,7 +68,7 @@ impl<'p> StandingThread<'p> {
     }
 
     /// Completes the shared instruction at which the thread stands, and makes its local instructions up to where it stands
-    /// next. The word is there exactly for a read, which gets it.
+    /// next. The word is there exactly for a read or an update, which gets it.
     pub fn answer(&mut self, word: Option<u64>)
         requires { TakesWord (stop_here self.old) word }
         ensures { self.new ≡ standing_after (unwrap_or word 0) self.old }

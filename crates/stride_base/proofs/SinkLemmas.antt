@@ -13,7 +13,7 @@ Adds-more (Some a) (Some b) None xs ys first second = second
 Adds-more (Some a) (Some b) (Some c) xs ys first second =
     second ∙ (ap (λ l. l ++ ys) first ∙ append_assoc a xs ys)
 
--- a front of the piece was added, the rest is still to come, and the count didn't fall
+-- a prefix of the piece was added, the rest is still to come, and the count didn't fall
 pub record PutSoFar (old new : Option (List ℕ)) (piece rest : List ℕ) (count_old count_new : ℕ) : Type 0 where
   pub front : List ℕ
   pub parts : piece ≡ front ++ rest

@@ -21,7 +21,7 @@ Adds None (Some new) bytes = ⊥
 Adds (Some old) None bytes = ⊥
 Adds (Some old) (Some new) bytes = new ≡ old ++ bytes
 
--- a front of the piece was appended, which may be none or all of it
+-- a prefix of the piece was appended, which may be none or all of it
 pub record AddsFront (old new : Option (List ℕ)) (piece : List ℕ) : Type 0 where
   pub front : List ℕ
   pub rest : List ℕ

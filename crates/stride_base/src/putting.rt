@@ -5,7 +5,7 @@ ghost use Rattle.stride_base.specs.Devices.{Adds, AddsFront, Rose};
 use crate::failed::Failed;
 use crate::sink::Sink;
 
-/// Appends the whole piece. Each `put` is given all that is left of it. After a fault a front of
+/// Appends the whole piece. Each `put` is given all that is left of it. After a fault a prefix of
 /// the piece was appended. It takes no memory.
 pub fn put_all<K: Sink>(sink: &mut K, piece: &[u8]) -> Result<(), Failed>
     ensures ok { OnOk result (Adds (K.held sink.old) (K.held sink.new) piece.now) }

@@ -1,6 +1,7 @@
 pub mod Accepted
 pub mod AnAnswer
 pub mod Begins
+pub mod FirstLines
 pub mod Followed
 pub mod Going
 pub mod OneAnswer

@@ -1,4 +1,5 @@
 pub mod Answers
+pub mod FirstLine
 pub mod Gives
 pub mod Inputs
 pub mod Laws

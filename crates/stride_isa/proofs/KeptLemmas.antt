@@ -101,7 +101,7 @@ push_last_set f (a ∷ []) (suc i) d v x h e = absurd (omega arith)
 push_last_set f (a ∷ b ∷ vs) zero d v x h e = absurd (omega arith)
 push_last_set f (a ∷ b ∷ vs) (suc i) d v x h e = ap (λ c. f a ∷ c) (push_last_set f (b ∷ vs) i d v x (omega arith) e)
 
--- one more instruction, whose word fits, behind instructions whose words fit
+-- one more instruction, whose word fits, after instructions whose words fit
 words_last : (codes : List (List Op)) (op : Op) → AllByRecursion (λ code. AllByRecursion PushesWord code) codes → PushesWord op → AllByRecursion (λ code. AllByRecursion PushesWord code) (push_last codes op)
 words_last [] op h p = h
 words_last (code ∷ []) op h p = (all_push PushesWord code op h.0 p, tt)

@@ -89,7 +89,7 @@ module _ (p : Listing) (thread : ℕ) (some : 0 < length (code_of p thread)) whe
   abbrev size : ℕ
   size = length (code_of p thread)
 
-  -- a mark that is missing behind a pair that is marked
+  -- a mark that is missing after a pair that is marked
   record Missing (marks : List Bool) (at depth : ℕ) : Type 0 where
     next : ℕ
     after : ℕ

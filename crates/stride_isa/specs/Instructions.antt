@@ -48,7 +48,7 @@ kind (ops.Exit monitor) = kinds.Exit
 kind ops.Print = kinds.Print
 kind ops.Halt = kinds.Halt
 
--- what it is written with, behind its name
+-- what it is written with, after its name
 abbrev pub operand : Op → Operand
 operand (ops.Push word) = operands.Number word
 operand ops.Dup = operands.Nothing

@@ -13,7 +13,7 @@ pub enum CheckKind {
     Overflow,
     /// An instruction is reached with two stack depths.
     TwoDepths,
-    /// A thread can go on behind its last instruction, or has no instruction.
+    /// A thread can go on after its last instruction, or has no instruction.
     RunsOff,
     /// A jump leads outside the code of its thread.
     BadTarget,

@@ -1,6 +1,7 @@
 //! One thread of a program that is played by a schedule.
 ghost use Rattle.std.specs.Prelude.{◌≡◌, ◌++◌, ◌<◌, ◌≤◌, OnOk, IfOk, unwrap_or, length, true};
 ghost use Rattle.sc_machine.specs.Transcript.{tag};
+ghost use Rattle.stride_cli.specs.FirstLine.{line_length};
 
 use itoa::Buffer;
 use sc_machine::StandingThread;
@@ -23,6 +24,18 @@ fn label_of(alloc: Global, thread: u32) -> Result<List<u8>, NoMemory>
     label.push_all(Buffer::new().format(thread).as_bytes())?;
     label.push(b' ')?;
     Ok(label)
+}
+
+// The length of the first line, with its line feed; of all bytes where there is none.
+fn line_len(bytes: &[u8]) -> usize
+    ensures { result ≡ line_length bytes.now }
+{
+    for (at, byte) in bytes.iter().enumerate() {
+        if *byte == b'\n' {
+            return at + 1;
+        }
+    }
+    bytes.len()
 }
 
 impl<'p> Player<'p> {
@@ -78,21 +91,17 @@ impl<'p> Player<'p> {
         self.put_lines(printed, transcript)
     }
 
-    /// Room for all bytes that are left is made line by line, so no byte asks for it.
+    /// Each line is appended at once.
     #[inline(never)]
     fn put_lines(&self, printed: &[u8], transcript: &mut List<u8>) -> Result<(), NoMemory>
         ensures { OnOk result (transcript.new.items ≡ transcript.old.items ++ tagged self.now.thread.number true printed.now) }
     {
-        let label = self.label.as_slice();
-        let mut begins = true;
-        transcript.reserve(printed.len())?;
-        for (place, byte) in printed.iter().enumerate() {
-            if begins {
-                transcript.push_all(label)?;
-                transcript.reserve(printed.len() - place)?;
-            }
-            transcript.push_spare(*byte);
-            begins = *byte == b'\n';
+        let mut rest = printed;
+        while !rest.is_empty() {
+            let (line, after) = rest.split_at(line_len(rest));
+            transcript.push_all(self.label.as_slice())?;
+            transcript.push_all(line)?;
+            rest = after;
         }
         Ok(())
     }

@@ -4,7 +4,7 @@ use Rattle.assembler.specs.Orders.{order_limit}
 use Rattle.assembler.specs.OrderReading.{line_words, with_words}
 use Rattle.assembler.proofs.orders.push_line.Given as goal
 
--- the words that are left, behind the members so far, are read as all words of the line
+-- the words that are left, after the members so far, are read as all words of the line
 abbrev pub invariant-loop-word : goal.invariant-loop-word
 invariant-loop-word l = record {
   reading : with_words l.order.items (line_words l.number (plain_words l.rest)) ≡ with_words l.fn.order.items (line_words l.number (words_of l.line));

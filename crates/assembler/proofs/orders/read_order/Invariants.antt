@@ -4,7 +4,7 @@ use Rattle.assembler.specs.Orders.{order_limit, order_spelled, words_from_line}
 use Rattle.assembler.specs.OrderReading.{with_words}
 use Rattle.assembler.proofs.orders.read_order.Given as goal
 
--- the lines that are left, behind the members so far, are read as the whole text
+-- the lines that are left, after the members so far, are read as the whole text
 abbrev pub invariant-loop-line : goal.invariant-loop-line
 invariant-loop-line l = record {
   reading : with_words l.order.items (words_from_line l.number (lines l.rest)) ≡ order_spelled l.first_line l.text;

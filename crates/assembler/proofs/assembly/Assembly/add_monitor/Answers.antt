@@ -2,7 +2,7 @@ use Rattle.std.proofs.Common.{rules}
 use Rattle.assembler.proofs.NameLemmas.{monitors_kept}
 use Rattle.assembler.proofs.assembly.Assembly.add_monitor.Goals as goal
 
--- the positions that are kept are those of the monitors, with the new one behind the others
+-- the positions that are kept are those of the monitors, with the new one after the others
 pub returns-clause-step : goal.returns-clause-step
 returns-clause-step c =
     let added = c.in_ok-position.ensures in
