@@ -11,7 +11,7 @@ pub enum FormatKind {
     #[error("not a bundle, or one of a version that is not known")]
     BadMagic,
     /// An entry begins with a tag that no entry of the version has.
-    #[error("not an entry of a log")]
+    #[error("not an entry of a log in this version")]
     BadTag,
     /// A number is out of its range.
     #[error("a number is out of its range")]

@@ -12,7 +12,7 @@ pub fn words_of_text(kind: &AsmKind) -> &'static str {
             "names no variable, array, monitor or label of this thread, whichever is wanted here"
         },
         AsmKind::Twice => "name already in use",
-        AsmKind::TooMany => "one more than the limit",
+        AsmKind::TooMany => "goes beyond a limit",
     }
 }
 
