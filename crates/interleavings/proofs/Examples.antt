@@ -17,6 +17,7 @@ use Rattle.interleavings.specs.declared.event.LogEntry.{LogEntry}
 use Rattle.interleavings.specs.declared.event.LogEntry.TheVariants.{Read, Write, Update, Enter}
 use Rattle.interleavings.specs.declared.kind.Kind.{Kind}
 use Rattle.interleavings.specs.declared.kind.Kind.TheVariants as by
+use Rattle.interleavings.specs.Events.{bound_of, entered_by, left_by, read_of, write_of}
 use Rattle.interleavings.specs.History.{Person, after, greatest_seen, newcomer}
 use Rattle.interleavings.specs.Recording.{Setting, state_of, acts_of, IsEndAfter, IsRecording}
 use Rattle.interleavings.specs.Driving.{advance, advance_all, begun, driven, finished_within, recording_of, settle_all, stranger, whole_run}
@@ -300,3 +301,17 @@ used_up = refl
 -- and one whose row has reached the patience did not halt
 halted_too_late : IsEndAfter (setting 2 one_monitor) 0 (Some (record { mon = 0; count = 2 })) Halted ≡ (true ≡ false)
 halted_too_late = refl
+
+-- an update is seen as a write of its new value and as a read of its old one that has no bound
+update_writes_new : write_of (events.Update 0 3 7 2) ≡ Some (record { cell = 0; number = 2; value = 7 })
+update_writes_new = refl
+
+update_reads_old : read_of (events.Update 0 3 7 2) ≡ Some (record { cell = 0; value = 3 })
+update_reads_old = refl
+
+only_reads_have_a_bound : (bound_of (events.Read 0 3 7) ≡ Some 7) × (bound_of (events.Update 0 3 7 2) ≡ None)
+only_reads_have_a_bound = (refl, refl)
+
+-- an enter begins the turn that the exit ends
+turn_begins_and_ends : (entered_by (events.Enter 1 4) ≡ Some (record { monitor = 1; turn = 4 })) × (left_by (events.Exit 1 4) ≡ Some (record { monitor = 1; turn = 4 }))
+turn_begins_and_ends = (refl, refl)
