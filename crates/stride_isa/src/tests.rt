@@ -118,6 +118,19 @@ fn what_updates_store(rt: HostRuntime) {
     }
 }
 
+#[test]
+fn the_stack_gives_the_last_word_first(rt: HostRuntime) {
+    let mut stack: Stack<3> = Stack::new();
+    assert!(rt; stack.is_empty());
+    stack.push(7);
+    stack.push(8);
+    stack.push(9);
+    assert_eq!(rt; stack.len(), 3);
+    assert_eq!(rt; stack.peek(2), 7);
+    assert_eq!(rt; stack.pop(), 9);
+    assert_eq!(rt; stack.peek(0), 8);
+}
+
 fn variable(bytes: &[u8], start: u64) -> Option<Decl>
     ensures { IfSome result (λ d. d.shape ≡ Single) }
 {
