@@ -19,7 +19,7 @@ use Rattle.interleavings.specs.SimulationShows.{CanGo, Makes, Shows}
 use Rattle.interleavings.specs.Events.{log_of}
 use Rattle.interleavings.specs.Layout.{index_of}
 use Rattle.interleavings.specs.Recording.{Recording, Setting, acts_of, state_of}
-use Rattle.sc_machine.specs.declared.limits.TheConstants.{FUEL_LIMIT}
+use Rattle.stride_isa.specs.declared.limits.TheConstants.{FUEL_LIMIT}
 use Rattle.stride_base.specs.declared.limits.TheConstants.{ORDER_LIMIT}
 use Rattle.interleavings.specs.Driving.{Drive, advance_all, begun, driven, recording_of, settle_all, stranger, whole_run}
 use Rattle.interleavings.proofs.Begins.{draws_length}

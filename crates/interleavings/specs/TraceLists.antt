@@ -3,7 +3,7 @@ use Rattle.std.specs.Prelude.{ℕ, ◌<◌, ◌≤◌, List, [], ◌∷◌, ◌+
 use Rattle.std.specs.List.{AllByRecursion, slice_index_or}
 use Rattle.std.specs.Prelude.{slice_set}
 use Rattle.stride_isa.specs.Listing.{Listing, starts_of}
-use Rattle.sc_machine.specs.declared.limits.TheConstants.{FUEL_LIMIT}
+use Rattle.stride_isa.specs.declared.limits.TheConstants.{FUEL_LIMIT}
 use Rattle.interleavings.specs.declared.event.Event.{Event}
 use Rattle.interleavings.specs.declared.event.Event.TheVariants.{Read, Write, Update, Enter, Exit}
 

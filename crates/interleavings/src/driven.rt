@@ -13,7 +13,7 @@ use crate::results::{end_all, last_values, logs_of};
 use crate::simulation::Simulation;
 use crate::simulation_start::start_simulation;
 use sc_machine::End;
-use sc_machine::limits::FUEL_LIMIT;
+use stride_isa::limits::FUEL_LIMIT;
 use std::alloc::Global;
 use stride_base::limits::ORDER_LIMIT;
 use stride_base::{List, NoMemory};

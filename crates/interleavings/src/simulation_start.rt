@@ -17,7 +17,7 @@ use crate::layout::Layout;
 use crate::simulation::Simulation;
 use crate::step_words::AtomicStep;
 use sc_machine::StandingThread;
-use sc_machine::limits::FUEL_LIMIT;
+use stride_isa::limits::FUEL_LIMIT;
 use std::alloc::{AllocError, Global};
 use std::collections::LinkedList;
 use stride_base::NoMemory;

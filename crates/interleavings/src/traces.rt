@@ -5,7 +5,7 @@ ghost use Rattle.stride_isa.specs.Listing.{starts_of};
 ghost use Rattle.interleavings.specs.TraceLists.{IsInRange, events_of, no_events as none, with_event_of};
 
 use crate::event::Event;
-use sc_machine::limits::FUEL_LIMIT;
+use stride_isa::limits::FUEL_LIMIT;
 use std::alloc::Global;
 use std::marker::Model;
 use std::sync::ledger::Ledger;

@@ -1,5 +1,6 @@
 -- What always holds of the fields of a `ThreadRun`. No public clause cites this module.
 use Rattle.std.specs.Prelude.{◌≡◌, ℕ, ◌<◌, ◌≤◌, Option, None, length}
+use Rattle.stride_isa.specs.Limits.{fuel_limit}
 use Rattle.stride_isa.specs.Listing.{Listing, code_of}
 use Rattle.stride_isa.specs.Validity.{Reaches}
 use Rattle.sc_machine.specs.declared.end.End.{End}
@@ -11,5 +12,5 @@ pub record IsRun (p : Listing) (thread fuel pc depth made : ℕ) (ended : Option
   pub inside : pc < length (code_of p thread)
   pub reaches : Reaches p thread pc depth
   pub within : made ≤ fuel
-  pub limit : fuel ≤ 1000000
+  pub limit : fuel ≤ fuel_limit
   pub going : ended ≡ None → made < fuel

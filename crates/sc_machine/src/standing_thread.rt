@@ -13,6 +13,7 @@ use std::alloc::Global;
 use std::marker::Model;
 use stride_base::{List, NoMemory};
 use stride_isa::Checked;
+use stride_isa::limits::FUEL_LIMIT;
 
 /// One thread of a program at a shared instruction or at its end, with what it printed so far and room for all that it may
 /// print yet.
@@ -47,7 +48,7 @@ impl<'p> StandingThread<'p> {
     ) -> Result<StandingThread<'p>, NoMemory>
         requires thread { number < length program.now.threads }
         requires some { 1 ≤ fuel }
-        requires limit { fuel ≤ 1000000 }
+        requires limit { fuel ≤ FUEL_LIMIT }
         ensures { IfOk result (λ thread. thread ≡ started_at program.now fuel number) }
     {
         let mut printed = List::new(alloc);

@@ -1,5 +1,6 @@
 //! What a thread runs.
 ghost use Rattle.std.specs.Prelude.{◌≡◌, ◌<◌, ◌≤◌, ℕ, length};
+ghost use Rattle.stride_isa.specs.Limits.{fuel_limit, instruction_limit};
 ghost use Rattle.stride_isa.specs.Listing.{code_of, op_at};
 ghost use Rattle.stride_isa.specs.Validity.{IsFine, Reaches};
 
@@ -14,9 +15,9 @@ pub struct Task<'p> {
     pub fuel: u32,
     ghost thread_is: { thread < length program.now.threads },
     ghost code_is: { code.now ≡ code_of program.now thread },
-    ghost small: { length code.now ≤ 65536 },
+    ghost small: { length code.now ≤ instruction_limit },
     ghost some: { 1 ≤ fuel },
-    ghost limit: { fuel ≤ 1000000 },
+    ghost limit: { fuel ≤ fuel_limit },
 }
 
 impl<'p> Task<'p> {
@@ -24,7 +25,7 @@ impl<'p> Task<'p> {
     pub fn new(program: &'p Checked, thread: u32, fuel: u32) -> Task<'p>
         requires thread { thread < length program.now.threads }
         requires some { 1 ≤ fuel }
-        requires limit { fuel ≤ 1000000 }
+        requires limit { fuel ≤ fuel_limit }
         ensures program { result.program.now ≡ program.now }
         ensures thread { result.thread ≡ thread }
         ensures fuel { result.fuel ≡ fuel }
@@ -43,7 +44,7 @@ impl<'p> Task<'p> {
     pub fn op(&self, at: u32) -> Op
         requires { at < length (code_of self.now.program.now self.now.thread) }
         ensures is { result ≡ op_at self.now.program.now self.now.thread at }
-        ensures small { at < 65536 }
+        ensures small { at < instruction_limit }
         ensures fine { (depth : ℕ) → Reaches self.now.program.now self.now.thread at depth → IsFine self.now.program.now self.now.thread at depth }
     {
         self.program.facts();

@@ -13,7 +13,7 @@ use crate::task::Task;
 use std::marker::Model;
 use stride_base::List;
 use stride_isa::Checked;
-use stride_isa::limits::{LOCAL_COUNT, MONITOR_LIMIT, STACK_LIMIT};
+use stride_isa::limits::{FUEL_LIMIT, LOCAL_COUNT, MONITOR_LIMIT, STACK_LIMIT};
 
 /// One thread of a program while it runs. What it prints goes to a list of the caller's.
 ///
@@ -45,7 +45,7 @@ impl<'p> ThreadRun<'p> {
     pub fn start(program: &'p Checked, thread: u32, fuel: u32) -> ThreadRun<'p>
         requires thread { thread < length program.now.threads }
         requires some { 1 ≤ fuel }
-        requires limit { fuel ≤ 1000000 }
+        requires limit { fuel ≤ FUEL_LIMIT }
         ensures { result ≡ start_run program.now thread fuel }
     {
         ThreadRun {

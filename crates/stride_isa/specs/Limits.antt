@@ -21,6 +21,10 @@ monitor_limit = 64
 abbrev pub instruction_limit : ℕ
 instruction_limit = 65536
 
+-- the most instructions that a thread may be given as fuel
+abbrev pub fuel_limit : ℕ
+fuel_limit = 1000000
+
 -- the most words on an operand stack
 abbrev pub stack_limit : ℕ
 stack_limit = 64

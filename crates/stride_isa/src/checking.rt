@@ -9,6 +9,7 @@ ghost use Rattle.stride_isa.specs.WellFormed.{IsWellFormed};
 
 use crate::check_error::CheckError;
 use crate::decl::Decl;
+use crate::limits::INSTRUCTION_LIMIT;
 use crate::name::Name;
 use crate::naming::check_names;
 use crate::op::Op;
@@ -95,12 +96,12 @@ impl Checked {
         requires { thread < length self.now.threads }
         ensures is { result.now ≡ code_of self.now thread }
         ensures some { 0 < length result.now }
-        ensures small { length result.now ≤ 65536 }
+        ensures small { length result.now ≤ instruction_limit }
         ensures fine { (at depth : ℕ) → Reaches self.now thread at depth → IsFine self.now thread at depth }
     {
         // A thread has code, and no more than the limit.
         let code_len = self.code_len(thread);
-        prove!(0 < code_len && code_len <= 65_536);
+        prove!(0 < code_len && code_len <= INSTRUCTION_LIMIT);
         self.program.code(thread)
     }
 

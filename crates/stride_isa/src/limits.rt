@@ -10,6 +10,8 @@ pub const ARRAY_LIMIT: u32 = 256;
 pub const MONITOR_LIMIT: usize = 64;
 /// The most instructions of all threads of a program together.
 pub const INSTRUCTION_LIMIT: u32 = 65_536;
+/// The most instructions that a thread may be given as fuel.
+pub const FUEL_LIMIT: u32 = 1_000_000;
 /// The most words on an operand stack.
 pub const STACK_LIMIT: usize = 64;
 /// How many locals a thread has.

@@ -8,6 +8,7 @@ use sc_machine::StandingThread;
 use std::alloc::Global;
 use stride_base::NoMemory;
 use stride_isa::Checked;
+use stride_isa::limits::FUEL_LIMIT;
 
 /// A thread that is run again, with the place of the next entry of its log, and the turn of its last entry into each monitor.
 #[derive(Drop)]
@@ -52,7 +53,7 @@ impl<'p> Follower<'p> {
     ) -> Result<Follower<'p>, NoMemory>
         requires thread { number < length program.now.threads }
         requires some { 1 ≤ fuel }
-        requires limit { fuel ≤ 1000000 }
+        requires limit { fuel ≤ FUEL_LIMIT }
         ensures thread { IfOk result (λ f. f.thread ≡ started_at program.now fuel number) }
         ensures place { IfOk result (λ f. f.place ≡ 0) }
         ensures turns { IfOk result (λ f. turns_in f ≡ no_turns) }

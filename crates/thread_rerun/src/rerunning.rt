@@ -11,6 +11,7 @@ use interleavings::{LogEntry, Traces};
 use std::alloc::Global;
 use stride_base::List;
 use stride_isa::Checked;
+use stride_isa::limits::FUEL_LIMIT;
 
 // The log of a thread, if it is there.
 fn log_of(logs: &List<List<LogEntry>>, thread: u32) -> Option<&[LogEntry]>
@@ -33,7 +34,7 @@ fn rerun_thread(
 ) -> Result<(), RerunError>
     requires thread { thread < length program.now.threads }
     requires some { 1 ≤ fuel }
-    requires limit { fuel ≤ 1000000 }
+    requires limit { fuel ≤ FUEL_LIMIT }
     requires room { HasRoomFor program.now thread rerun.old.traces }
     ensures { ThreadComes program.now fuel thread log.now rerun.old rerun.new result }
 {
@@ -54,7 +55,7 @@ pub fn rerun(
     logs: &List<List<LogEntry>>,
 ) -> Result<Rerun, RerunError>
     requires some { 1 ≤ fuel }
-    requires limit { fuel ≤ 1000000 }
+    requires limit { fuel ≤ FUEL_LIMIT }
     ensures { IsAnswer result (again program.now fuel (map (λ log. log.items) logs.now.items)) }
 {
     let mut rerun = Rerun {

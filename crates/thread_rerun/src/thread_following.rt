@@ -7,6 +7,7 @@ use crate::follower::Follower;
 use crate::meeting::{Met, meet};
 use crate::rerun_error::RerunError;
 use interleavings::{LogEntry, Traces};
+use stride_isa::limits::FUEL_LIMIT;
 
 fn entry_at(log: &[LogEntry], place: usize) -> Option<LogEntry>
     ensures { result ≡ slice_get log.now place }
@@ -22,7 +23,7 @@ pub(crate) fn follow_log(
     traces: &mut Traces,
 ) -> Result<(), RerunError>
     requires follower { follower.old.thread.number ≡ thread }
-    requires limit { follower.old.thread.fuel ≤ 1000000 }
+    requires limit { follower.old.thread.fuel ≤ FUEL_LIMIT }
     requires place { follower.old.place ≡ 0 }
     requires traces { IsOfProgram follower.old.thread.program traces.old }
     requires thread { thread < length traces.old.events }

@@ -8,6 +8,7 @@ use sc_machine::StandingThread;
 use std::alloc::Global;
 use stride_base::{List, NoMemory};
 use stride_isa::Checked;
+use stride_isa::limits::FUEL_LIMIT;
 
 /// A thread that is played, with the label of its lines in the transcript.
 #[derive(Drop)]
@@ -56,7 +57,7 @@ impl<'p> Player<'p> {
     ) -> Result<Player<'p>, NoMemory>
         requires thread { number < length program.now.threads }
         requires some { 1 ≤ fuel }
-        requires limit { fuel ≤ 1000000 }
+        requires limit { fuel ≤ FUEL_LIMIT }
         ensures thread { IfOk result (λ player. player.thread ≡ started_at program.now fuel number) }
         ensures printed { OnOk result (transcript.new.items ≡ transcript.old.items ++ transcript_bytes (settled_lines program.now fuel number start_thread)) }
     {

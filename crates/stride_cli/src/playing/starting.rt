@@ -12,6 +12,7 @@ use crate::playing::table::CELL_ROOM;
 use std::alloc::Global;
 use stride_base::{List, NoMemory};
 use stride_isa::Checked;
+use stride_isa::limits::FUEL_LIMIT;
 
 /// A player for each thread, in order of number. What they print on the way is appended to the transcript.
 pub fn start_players<'p>(
@@ -21,7 +22,7 @@ pub fn start_players<'p>(
     transcript: &mut List<u8>,
 ) -> Result<Vec<Player<'p>>, NoMemory>
     requires some { 1 ≤ fuel }
-    requires limit { fuel ≤ 1000000 }
+    requires limit { fuel ≤ FUEL_LIMIT }
     ensures players { IfOk result (λ players. ArePlayers program.now fuel (length program.now.threads) players.items) }
     ensures printed { OnOk result (transcript.new.items ≡ transcript.old.items
         ++ transcript_bytes (flat_map (λ t. settled_lines program.now fuel t start_thread) (range_with_len 0 (length program.now.threads)))) }

@@ -8,7 +8,7 @@ use sc_machine::Stop;
 use std::alloc::Global;
 use stride_base::{List, NoMemory};
 use stride_isa::Checked;
-use stride_isa::limits::{CELL_LIMIT, MONITOR_LIMIT};
+use stride_isa::limits::{CELL_LIMIT, FUEL_LIMIT, MONITOR_LIMIT};
 
 /// How many cells there is room for: as many as any program has.
 pub const CELL_ROOM: usize = CELL_LIMIT as usize;
@@ -95,7 +95,7 @@ impl<'p> Table<'p> {
     /// The table after the local start of each thread.
     pub fn start(alloc: Global, program: &'p Checked, fuel: u32) -> Result<Table<'p>, NoMemory>
         requires some { 1 ≤ fuel }
-        requires limit { fuel ≤ 1000000 }
+        requires limit { fuel ≤ FUEL_LIMIT }
         ensures table { IfOk result IsTable }
         ensures shows { IfOk result (λ table. Shows table (ready program.now fuel)) }
         ensures program { IfOk result (λ table. table.program.now ≡ program.now) }

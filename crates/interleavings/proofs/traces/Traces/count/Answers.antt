@@ -1,6 +1,6 @@
 use Rattle.std.proofs.Common.{◌≤◌, length, arith}
 use Rattle.std.proofs.lemmas.List.{length-map}
-use Rattle.sc_machine.specs.declared.limits.TheConstants.{FUEL_LIMIT}
+use Rattle.stride_isa.specs.declared.limits.TheConstants.{FUEL_LIMIT}
 use Rattle.interleavings.proofs.TraceLemmas.{each_in}
 use Rattle.interleavings.proofs.traces.Traces.count.Goals as goal
 

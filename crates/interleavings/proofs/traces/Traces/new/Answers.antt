@@ -1,7 +1,7 @@
 use Rattle.std.proofs.Common.{◌≤◌, [], length, arith}
 use Rattle.std.specs.List.{AllByRecursion}
 use Rattle.std.proofs.lemmas.List.{length-replicate}
-use Rattle.sc_machine.specs.declared.limits.TheConstants.{FUEL_LIMIT}
+use Rattle.stride_isa.specs.declared.limits.TheConstants.{FUEL_LIMIT}
 use Rattle.interleavings.proofs.TraceLemmas.{each_equal, length-starts}
 use Rattle.interleavings.proofs.traces.Traces.new.Goals as goal
 
