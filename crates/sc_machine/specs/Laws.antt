@@ -1,9 +1,9 @@
 -- What holds of every run of the machine, whatever the program is.
-use Rattle.std.specs.Prelude.{◌≡◌, ℕ, ◌<◌, true, false, List, ◌++◌, length, map, take, slice_index, Some, None, option_and_then}
+use Rattle.std.specs.Prelude.{◌≡◌, ℕ, ◌<◌, ◌≤◌, true, false, List, ◌++◌, length, map, take, slice_index, Some, None, option_and_then}
 use Rattle.std.specs.List.{flat_map}
 use Rattle.stride_isa.specs.Listing.{Listing, start_of}
 use Rattle.sc_machine.specs.declared.stop.Stop.{Stop}
-use Rattle.sc_machine.specs.ThreadStep.{Thread, Stands, start_thread, now, settled, stop_of}
+use Rattle.sc_machine.specs.ThreadStep.{Thread, Row, Stands, start_thread, now, moved, settled, stop_of, answered}
 use Rattle.sc_machine.specs.Machine.{Machine, thread_at, may_pass, can}
 use Rattle.sc_machine.specs.Schedule.{settled_lines, turn, turned, turns, stuck_place, ready, thread_numbers, run_of, refused_place, finished, replayed, outputs}
 use Rattle.sc_machine.specs.Transcript.{transcript_bytes, line_bytes, bytes_of, tagged}
@@ -41,9 +41,29 @@ StartsSettle = (p : Listing) (fuel : ℕ) → ready p fuel ≡ record {
 abbrev pub TurnByStop : Type 0
 TurnByStop = (p : Listing) (fuel t : ℕ) (stop : Stop) (m : Machine) → t < length m.threads → now p t (thread_at m t) ≡ Stands stop → (can p t m ≡ may_pass t stop m.holders) × (turn p fuel t m ≡ turned p fuel t stop m)
 
+-- a thread has fuel left where it has not ended
+abbrev pub HasFuel : ℕ → Thread → Type 0
+HasFuel fuel s = s.ended ≡ None → s.made < fuel
+
+-- a thread with fuel left where it has not ended has so still after a local instruction
+abbrev pub MovedKeepsFuel : Type 0
+MovedKeepsFuel = (fuel : ℕ) (r : Row) (s : Thread) → HasFuel fuel s → HasFuel fuel (moved fuel r s)
+
+-- and once it has settled
+abbrev pub SettledKeepsFuel : Type 0
+SettledKeepsFuel = (p : Listing) (fuel t : ℕ) (s : Thread) → HasFuel fuel s → HasFuel fuel (settled p fuel t s)
+
+-- after a shared instruction a thread has fuel left where that did not end it
+abbrev pub AnsweredHasFuel : Type 0
+AnsweredHasFuel = (p : Listing) (fuel t word : ℕ) (s : Thread) → HasFuel fuel (answered p fuel t word s)
+
+-- once it has settled a thread has made no fewer instructions than before
+abbrev pub SettledMakesNoLess : Type 0
+SettledMakesNoLess = (p : Listing) (fuel t : ℕ) (s : Thread) → s.made ≤ (settled p fuel t s).made
+
 -- a thread with fuel left where it has not ended settles at a shared instruction or at its end
 abbrev pub SettledStands : Type 0
-SettledStands = (p : Listing) (fuel t : ℕ) (s : Thread) → (s.ended ≡ None → s.made < fuel) → now p t (settled p fuel t s) ≡ Stands (stop_of p t (settled p fuel t s))
+SettledStands = (p : Listing) (fuel t : ℕ) (s : Thread) → HasFuel fuel s → now p t (settled p fuel t s) ≡ Stands (stop_of p t (settled p fuel t s))
 
 -- the bytes that a thread prints until it settles are appended to its output, and with its tag before each line they
 -- are its lines of the transcript

@@ -1,5 +1,5 @@
 //! Laws of the machine, over its definitions alone. Each is the contract of a function that does nothing.
-ghost use Rattle.sc_machine.specs.Laws.{TurnsAreSteps, RefusedWhereStuck, TurnsJoin, MadeAlongTurns, RefusedAlongTurns, StartsSettle, TurnByStop, SettledStands, SettledPrints, OutputsAreLines};
+ghost use Rattle.sc_machine.specs.Laws.{TurnsAreSteps, RefusedWhereStuck, TurnsJoin, MadeAlongTurns, RefusedAlongTurns, StartsSettle, TurnByStop, MovedKeepsFuel, SettledKeepsFuel, AnsweredHasFuel, SettledMakesNoLess, SettledStands, SettledPrints, OutputsAreLines};
 
 /// The single steps of a schedule do what its whole turns do, after the local starts.
 pub fn turns_are_steps()
@@ -30,6 +30,18 @@ pub fn starts_settle()
 /// The turn of a thread that stands is one equation by its stop.
 pub fn turn_by_stop()
     ensures { TurnByStop }
+{}
+
+/// A thread that has not ended has fuel left: after a local instruction, once it has settled, and after a shared one.
+pub fn fuel_is_left()
+    ensures moved { MovedKeepsFuel }
+    ensures settled { SettledKeepsFuel }
+    ensures answered { AnsweredHasFuel }
+{}
+
+/// A thread that settles takes back none of the instructions that it has made.
+pub fn settled_makes_no_less()
+    ensures { SettledMakesNoLess }
 {}
 
 /// A thread settles at a shared instruction or at its end.

@@ -22,8 +22,9 @@ mod trap;
 
 pub use end::End;
 pub use laws::{
-    outputs_are_lines, refused_where_stuck, replay_along_turns, settled_prints, settled_stands,
-    starts_settle, turn_by_stop, turns_are_steps, turns_join,
+    fuel_is_left, outputs_are_lines, refused_where_stuck, replay_along_turns,
+    settled_makes_no_less, settled_prints, settled_stands, starts_settle, turn_by_stop,
+    turns_are_steps, turns_join,
 };
 pub use standing_thread::StandingThread;
 pub use stop::Stop;

@@ -1,9 +1,14 @@
--- Laws of validity and of the first fault.
-use Rattle.std.specs.Prelude.{◌≡◌, ℕ, Option}
+-- Laws of programs, of validity and of the first fault.
+use Rattle.std.specs.Prelude.{◌≡◌, ℕ, List, Option, length}
 use Rattle.stride_isa.specs.Faults.{HasNameFault, HasDepthFault, IsFirstFault, Fault, IsVerdict}
-use Rattle.stride_isa.specs.Listing.{Listing}
+use Rattle.stride_isa.specs.Listing.{Listing, cell_count, starts_of}
 use Rattle.stride_isa.specs.Validity.{IsValid}
 use Rattle.stride_isa.specs.declared.check_error.CheckKind.{CheckKind}
+use Rattle.stride_isa.specs.declared.decl.Decl.{Decl}
+
+-- there are as many starting values as cells
+abbrev pub EachCellStarts : Type 0
+EachCellStarts = (decls : List Decl) → length (starts_of decls) ≡ cell_count decls
 
 -- a valid program has no fault of either rule
 abbrev pub ValidHasNoFault : Type 0

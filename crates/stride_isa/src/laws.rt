@@ -1,5 +1,10 @@
-//! Laws of validity and of the first fault, each as the contract of a function that does nothing.
-ghost use Rattle.stride_isa.specs.Laws.{ValidHasNoFault, FaultlessIsValid, OneFirstFault, HasVerdict, OneVerdict};
+//! Laws of programs, of validity and of the first fault, each as the contract of a function that does nothing.
+ghost use Rattle.stride_isa.specs.Laws.{EachCellStarts, ValidHasNoFault, FaultlessIsValid, OneFirstFault, HasVerdict, OneVerdict};
+
+/// Each cell has a starting value.
+pub fn each_cell_starts()
+    ensures { EachCellStarts }
+{}
 
 /// A valid program has no fault.
 pub fn valid_has_no_fault()

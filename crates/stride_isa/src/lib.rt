@@ -32,7 +32,8 @@ pub use check_error::{CheckError, CheckKind};
 pub use checking::{Checked, check};
 pub use decl::{Decl, Shape};
 pub use laws::{
-    faultless_is_valid, one_first_fault, one_verdict, some_verdict, valid_has_no_fault,
+    each_cell_starts, faultless_is_valid, one_first_fault, one_verdict, some_verdict,
+    valid_has_no_fault,
 };
 pub use name::Name;
 pub use op::{
