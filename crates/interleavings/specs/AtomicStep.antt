@@ -35,21 +35,89 @@ word_of by.Enter at = Monitor at
 word_of by.Leave at = Monitor at
 word_of by.Draw at = Drawn
 
+-- the thread is at no shared instruction
+abbrev pub IsIdle : Phase → Type 0
+IsIdle Idle = Unit {0}
+IsIdle (Loaded cell value) = ⊥
+IsIdle (Numbered cell n) = ⊥
+IsIdle (Marked cell n) = ⊥
+IsIdle (Fetched cell n old) = ⊥
+IsIdle (Stored cell n old value) = ⊥
+IsIdle (Looked monitor turn) = ⊥
+
+-- it has loaded the value of this cell
+abbrev pub HasLoaded : ℕ → Phase → Type 0
+HasLoaded at Idle = ⊥
+HasLoaded at (Loaded cell value) = at ≡ cell
+HasLoaded at (Numbered cell n) = ⊥
+HasLoaded at (Marked cell n) = ⊥
+HasLoaded at (Fetched cell n old) = ⊥
+HasLoaded at (Stored cell n old value) = ⊥
+HasLoaded at (Looked monitor turn) = ⊥
+
+-- it has seen the number of this cell
+abbrev pub HasNumbered : ℕ → Phase → Type 0
+HasNumbered at Idle = ⊥
+HasNumbered at (Loaded cell value) = ⊥
+HasNumbered at (Numbered cell n) = at ≡ cell
+HasNumbered at (Marked cell n) = ⊥
+HasNumbered at (Fetched cell n old) = ⊥
+HasNumbered at (Stored cell n old value) = ⊥
+HasNumbered at (Looked monitor turn) = ⊥
+
+-- it has claimed this cell, and has neither loaded the old value nor stored
+abbrev pub HasMarked : ℕ → Phase → Type 0
+HasMarked at Idle = ⊥
+HasMarked at (Loaded cell value) = ⊥
+HasMarked at (Numbered cell n) = ⊥
+HasMarked at (Marked cell n) = at ≡ cell
+HasMarked at (Fetched cell n old) = ⊥
+HasMarked at (Stored cell n old value) = ⊥
+HasMarked at (Looked monitor turn) = ⊥
+
+-- it has claimed this cell and has not stored; it may have loaded the old value
+abbrev pub CanStore : ℕ → Phase → Type 0
+CanStore at Idle = ⊥
+CanStore at (Loaded cell value) = ⊥
+CanStore at (Numbered cell n) = ⊥
+CanStore at (Marked cell n) = at ≡ cell
+CanStore at (Fetched cell n old) = at ≡ cell
+CanStore at (Stored cell n old value) = ⊥
+CanStore at (Looked monitor turn) = ⊥
+
+-- it has stored into this cell
+abbrev pub HasStored : ℕ → Phase → Type 0
+HasStored at Idle = ⊥
+HasStored at (Loaded cell value) = ⊥
+HasStored at (Numbered cell n) = ⊥
+HasStored at (Marked cell n) = ⊥
+HasStored at (Fetched cell n old) = ⊥
+HasStored at (Stored cell n old value) = at ≡ cell
+HasStored at (Looked monitor turn) = ⊥
+
+-- it has seen this monitor free
+abbrev pub HasLooked : ℕ → Phase → Type 0
+HasLooked at Idle = ⊥
+HasLooked at (Loaded cell value) = ⊥
+HasLooked at (Numbered cell n) = ⊥
+HasLooked at (Marked cell n) = ⊥
+HasLooked at (Fetched cell n old) = ⊥
+HasLooked at (Stored cell n old value) = ⊥
+HasLooked at (Looked monitor turn) = at ≡ monitor
+
 -- the phase in which a step is made
 abbrev pub Begins : Kind → ℕ → Phase → Type 0
-Begins by.ValueLoad at Idle = Unit {0}
-Begins by.NumberLoad at (Loaded cell value) = at ≡ cell
-Begins by.SeeNumber at Idle = Unit {0}
-Begins by.Claim at (Numbered cell n) = at ≡ cell
-Begins by.Fetch at (Marked cell n) = at ≡ cell
-Begins by.Put at (Marked cell n) = at ≡ cell
-Begins by.Put at (Fetched cell n old) = at ≡ cell
-Begins by.Complete at (Stored cell n old value) = at ≡ cell
-Begins by.Look at Idle = Unit {0}
-Begins by.Enter at (Looked monitor turn) = at ≡ monitor
-Begins by.Leave at Idle = Unit {0}
-Begins by.Draw at Idle = Unit {0}
-Begins kind at phase = ⊥
+Begins by.ValueLoad at phase = IsIdle phase
+Begins by.NumberLoad at phase = HasLoaded at phase
+Begins by.SeeNumber at phase = IsIdle phase
+Begins by.Claim at phase = HasNumbered at phase
+Begins by.Fetch at phase = HasMarked at phase
+Begins by.Put at phase = CanStore at phase
+Begins by.Complete at phase = HasStored at phase
+Begins by.Look at phase = IsIdle phase
+Begins by.Enter at phase = HasLooked at phase
+Begins by.Leave at phase = IsIdle phase
+Begins by.Draw at phase = IsIdle phase
 
 -- the turn for which the monitor is held, if it is
 abbrev pub held_turn : ℕ → List HeldTurn → Option ℕ
@@ -78,16 +146,23 @@ pub record May (kind : Kind) (at : ℕ) (acts : Acts) : Type 0 where
 
 -- half of the number that a writer saw
 abbrev pub number_in : Phase → ℕ
+number_in Idle = 0
+number_in (Loaded cell value) = 0
 number_in (Numbered cell n) = n
 number_in (Marked cell n) = n
 number_in (Fetched cell n old) = n
 number_in (Stored cell n old value) = n
-number_in phase = 0
+number_in (Looked monitor turn) = 0
 
 -- how many turns a monitor had when it was seen free
 abbrev pub turn_in : Phase → ℕ
+turn_in Idle = 0
+turn_in (Loaded cell value) = 0
+turn_in (Numbered cell n) = 0
+turn_in (Marked cell n) = 0
+turn_in (Fetched cell n old) = 0
+turn_in (Stored cell n old value) = 0
 turn_in (Looked monitor turn) = turn
-turn_in phase = 0
 
 -- a number of turns where there is one
 abbrev pub turn_or_zero : Option ℕ → ℕ
@@ -112,16 +187,31 @@ word_after by.Enter at value acts met = either (met == 2 * turn_in acts.phase) (
 word_after by.Leave at value acts met = 2 * turn_or_zero (held_turn at acts.held)
 word_after by.Draw at value acts met = met + 1
 
--- the event of a read whose number was even, or none
+-- the event of a reader that has loaded the value, with this bound
+abbrev pub ended_read : Phase → ℕ → Option Event
+ended_read Idle bound = None
+ended_read (Loaded cell value) bound = Some (events.Read cell value bound)
+ended_read (Numbered cell n) bound = None
+ended_read (Marked cell n) bound = None
+ended_read (Fetched cell n old) bound = None
+ended_read (Stored cell n old value) bound = None
+ended_read (Looked monitor turn) bound = None
+
+-- the same where the number was even
 abbrev pub read_if : Bool → Phase → ℕ → Option Event
-read_if true (Loaded cell value) bound = Some (events.Read cell value bound)
-read_if even phase bound = None
+read_if true phase bound = ended_read phase bound
+read_if false phase bound = None
 
 -- the event of a writer that completes its number: an update where it had loaded the old value, and else a write
 abbrev pub completed : Phase → Option Event
+completed Idle = None
+completed (Loaded cell value) = None
+completed (Numbered cell n) = None
+completed (Marked cell n) = None
+completed (Fetched cell n old) = None
 completed (Stored cell n None value) = Some (events.Write cell value (n + 1))
 completed (Stored cell n (Some old) value) = Some (events.Update cell old value (n + 1))
-completed phase = None
+completed (Looked monitor turn) = None
 
 -- the event of an entry, where the monitor was still as it was seen
 abbrev pub entered_if : Bool → ℕ → ℕ → Option Event
@@ -154,19 +244,33 @@ phase_if false phase other = other
 
 -- the phase of a writer that has claimed
 abbrev pub marked : Phase → Phase
+marked Idle = Idle
+marked (Loaded cell value) = Loaded cell value
 marked (Numbered cell n) = Marked cell n
-marked phase = phase
+marked (Marked cell n) = Marked cell n
+marked (Fetched cell n old) = Fetched cell n old
+marked (Stored cell n old value) = Stored cell n old value
+marked (Looked monitor turn) = Looked monitor turn
 
 -- the phase of a writer that has claimed and then loaded the old value
 abbrev pub fetched : ℕ → Phase → Phase
+fetched old Idle = Idle
+fetched old (Loaded cell value) = Loaded cell value
+fetched old (Numbered cell n) = Numbered cell n
 fetched old (Marked cell n) = Fetched cell n old
-fetched old phase = phase
+fetched old (Fetched cell n before) = Fetched cell n before
+fetched old (Stored cell n before value) = Stored cell n before value
+fetched old (Looked monitor turn) = Looked monitor turn
 
 -- the phase of a writer that has stored this value
 abbrev pub stored : ℕ → Phase → Phase
+stored value Idle = Idle
+stored value (Loaded cell loaded) = Loaded cell loaded
+stored value (Numbered cell n) = Numbered cell n
 stored value (Marked cell n) = Stored cell n None value
 stored value (Fetched cell n old) = Stored cell n (Some old) value
-stored value phase = phase
+stored value (Stored cell n old before) = Stored cell n old before
+stored value (Looked monitor turn) = Looked monitor turn
 
 -- the phase after the step
 abbrev pub phase_after : Kind → ℕ → ℕ → Phase → ℕ → Phase
@@ -184,8 +288,17 @@ phase_after by.Draw at value phase met = Idle
 
 -- the name after the step
 abbrev pub name_after : Kind → Option ℕ → ℕ → Option ℕ
+name_after by.ValueLoad name met = name
+name_after by.NumberLoad name met = name
+name_after by.SeeNumber name met = name
+name_after by.Claim name met = name
+name_after by.Fetch name met = name
+name_after by.Put name met = name
+name_after by.Complete name met = name
+name_after by.Look name met = name
+name_after by.Enter name met = name
+name_after by.Leave name met = name
 name_after by.Draw name met = Some met
-name_after kind name met = name
 
 -- the turns held, with one more where the test passes
 abbrev pub held_if : Bool → HeldTurn → List HeldTurn → List HeldTurn
@@ -194,9 +307,17 @@ held_if false h held = held
 
 -- the turns held after the step
 abbrev pub held_after : Kind → ℕ → Phase → List HeldTurn → ℕ → List HeldTurn
+held_after by.ValueLoad at phase held met = held
+held_after by.NumberLoad at phase held met = held
+held_after by.SeeNumber at phase held met = held
+held_after by.Claim at phase held met = held
+held_after by.Fetch at phase held met = held
+held_after by.Put at phase held met = held
+held_after by.Complete at phase held met = held
+held_after by.Look at phase held met = held
 held_after by.Enter at phase held met = held_if (met == 2 * turn_in phase) (record { mon = at; turn = turn_in phase + 1 }) held
 held_after by.Leave at phase held met = filter (λ h. not (h.mon == at)) held
-held_after kind at phase held met = held
+held_after by.Draw at phase held met = held
 
 -- the row of odd looks with one more at this monitor; a look at another monitor begins a row of one
 abbrev pub one_more : ℕ → Option OddLooks → OddLooks
@@ -210,8 +331,17 @@ looked false monitor row = Some (one_more monitor row)
 
 -- the row of odd looks after the step
 abbrev pub looks_after : Kind → ℕ → Option OddLooks → ℕ → Option OddLooks
+looks_after by.ValueLoad at row met = row
+looks_after by.NumberLoad at row met = row
+looks_after by.SeeNumber at row met = row
+looks_after by.Claim at row met = row
+looks_after by.Fetch at row met = row
+looks_after by.Put at row met = row
+looks_after by.Complete at row met = row
 looks_after by.Look at row met = looked (is_even met) at row
-looks_after kind at row met = row
+looks_after by.Enter at row met = row
+looks_after by.Leave at row met = row
+looks_after by.Draw at row met = row
 
 -- what the thread does after the step
 abbrev pub acts_after : Kind → ℕ → ℕ → Acts → ℕ → Acts
@@ -223,10 +353,16 @@ acts_after kind at value acts met = record {
   looks = looks_after kind at acts.looks met;
 }
 
+-- the cell or the monitor of a word; the count of names is of none
+abbrev pub place_in : SharedWord → Option ℕ
+place_in Drawn = None
+place_in (Value cell) = Some cell
+place_in (Number cell) = Some cell
+place_in (Monitor monitor) = Some monitor
+
 -- the cell or the monitor of a step; a draw has none
 abbrev pub place_of : Kind → ℕ → Option ℕ
-place_of by.Draw at = None
-place_of kind at = Some at
+place_of kind at = place_in (word_of kind at)
 
 -- the word that a step loads or meets; a store tells its thread nothing, so it counts as 0
 abbrev pub word_told : Kind → ℕ → ℕ
@@ -257,6 +393,14 @@ seen_if false s seen = seen
 -- the numbers that the thread has seen after the step, the last of them first: those of its reads' even numbers and those of
 -- its own writes and updates
 abbrev pub seen_after : Kind → ℕ → Phase → List SeenNumber → ℕ → List SeenNumber
+seen_after by.ValueLoad at phase seen met = seen
 seen_after by.NumberLoad at phase seen met = seen_if (is_even met) (record { cell = at; number = met / 2 }) seen
+seen_after by.SeeNumber at phase seen met = seen
+seen_after by.Claim at phase seen met = seen
+seen_after by.Fetch at phase seen met = seen
+seen_after by.Put at phase seen met = seen
 seen_after by.Complete at phase seen met = record { cell = at; number = number_in phase + 1 } ∷ seen
-seen_after kind at phase seen met = seen
+seen_after by.Look at phase seen met = seen
+seen_after by.Enter at phase seen met = seen
+seen_after by.Leave at phase seen met = seen
+seen_after by.Draw at phase seen met = seen

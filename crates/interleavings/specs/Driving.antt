@@ -3,6 +3,7 @@ use Rattle.std.specs.Prelude.{ℕ, zero, suc, ◌+◌, Bool, true, false, if◌t
 use Rattle.std.specs.List.{range_with_len}
 use Rattle.std.specs.Option.{option_map}
 use Rattle.stride_isa.specs.Changes.{applied}
+use Rattle.stride_isa.specs.declared.change.Change.{Change}
 use Rattle.stride_isa.specs.Listing.{cell_count}
 use Rattle.sc_machine.specs.declared.stop.Stop.{Stop}
 use Rattle.sc_machine.specs.declared.stop.Stop.TheVariants as stops
@@ -10,7 +11,7 @@ use Rattle.sc_machine.specs.ThreadStep.{Thread, start_thread, settled, stop_of, 
 use Rattle.sc_machine.specs.Schedule.{stopped, thread_numbers}
 use Rattle.interleavings.specs.declared.acts.OddLooks.{OddLooks}
 use Rattle.interleavings.specs.declared.acts.Phase.{Phase}
-use Rattle.interleavings.specs.declared.acts.Phase.TheVariants.{Loaded, Numbered, Marked, Fetched, Stored, Looked}
+use Rattle.interleavings.specs.declared.acts.Phase.TheVariants.{Idle, Loaded, Numbered, Marked, Fetched, Stored, Looked}
 use Rattle.interleavings.specs.declared.event.Event.{Event}
 use Rattle.interleavings.specs.declared.kind.Kind.{Kind}
 use Rattle.interleavings.specs.declared.kind.Kind.TheVariants as by
@@ -34,29 +35,43 @@ thread_of d t = slice_index_or d.threads t start_thread
 
 -- the kind of the next step of a reader in this phase
 abbrev pub read_kind : Phase → Kind
+read_kind Idle = by.ValueLoad
 read_kind (Loaded cell value) = by.NumberLoad
-read_kind phase = by.ValueLoad
+read_kind (Numbered cell n) = by.ValueLoad
+read_kind (Marked cell n) = by.ValueLoad
+read_kind (Fetched cell n old) = by.ValueLoad
+read_kind (Stored cell n old value) = by.ValueLoad
+read_kind (Looked monitor turn) = by.ValueLoad
 
 -- of a writer
 abbrev pub write_kind : Phase → Kind
+write_kind Idle = by.SeeNumber
+write_kind (Loaded cell value) = by.SeeNumber
 write_kind (Numbered cell n) = by.Claim
 write_kind (Marked cell n) = by.Put
 write_kind (Fetched cell n old) = by.Put
 write_kind (Stored cell n old value) = by.Complete
-write_kind phase = by.SeeNumber
+write_kind (Looked monitor turn) = by.SeeNumber
 
 -- of a thread that updates, which loads the old value after its claim
 abbrev pub update_kind : Phase → Kind
+update_kind Idle = by.SeeNumber
+update_kind (Loaded cell value) = by.SeeNumber
 update_kind (Numbered cell n) = by.Claim
 update_kind (Marked cell n) = by.Fetch
 update_kind (Fetched cell n old) = by.Put
 update_kind (Stored cell n old value) = by.Complete
-update_kind phase = by.SeeNumber
+update_kind (Looked monitor turn) = by.SeeNumber
 
 -- of a thread that enters a monitor
 abbrev pub enter_kind : Phase → Kind
+enter_kind Idle = by.Look
+enter_kind (Loaded cell value) = by.Look
+enter_kind (Numbered cell n) = by.Look
+enter_kind (Marked cell n) = by.Look
+enter_kind (Fetched cell n old) = by.Look
+enter_kind (Stored cell n old value) = by.Look
 enter_kind (Looked monitor turn) = by.Enter
-enter_kind phase = by.Look
 
 -- the kind of the next atomic step of a thread that stands at this shared instruction in this phase; one that has ended
 -- makes none
@@ -77,12 +92,21 @@ at_of (stops.Enter monitor) = monitor
 at_of (stops.Exit monitor) = monitor
 at_of (stops.Ended end) = 0
 
--- the value that a thread has to store that has loaded this old value, or none yet
+-- the value that an update has to store: 0 where it has not loaded the old one, or has stored already
+abbrev pub updated : Change → Phase → ℕ
+updated change Idle = 0
+updated change (Loaded cell value) = 0
+updated change (Numbered cell n) = 0
+updated change (Marked cell n) = 0
+updated change (Fetched cell n old) = applied change old
+updated change (Stored cell n old value) = 0
+updated change (Looked monitor turn) = 0
+
+-- the value that a thread has to store that stands at this shared instruction in this phase
 abbrev pub value_of : Stop → Phase → ℕ
 value_of (stops.Read cell) phase = 0
 value_of (stops.Write cell value) phase = value
-value_of (stops.Update cell change) (Fetched at n old) = applied change old
-value_of (stops.Update cell change) phase = 0
+value_of (stops.Update cell change) phase = updated change phase
 value_of (stops.Enter monitor) phase = 0
 value_of (stops.Exit monitor) phase = 0
 value_of (stops.Ended end) phase = 0
@@ -137,14 +161,23 @@ begun g = record {
 
 -- whether a writer in this phase has claimed its number and not completed it
 abbrev pub has_claimed : Phase → Bool
+has_claimed Idle = false
+has_claimed (Loaded cell value) = false
+has_claimed (Numbered cell n) = false
 has_claimed (Marked cell n) = true
 has_claimed (Fetched cell n old) = true
 has_claimed (Stored cell n old value) = true
-has_claimed phase = false
+has_claimed (Looked monitor turn) = false
 
+-- whether a reader in this phase has loaded the value and not found the number even yet
 abbrev pub is_loaded : Phase → Bool
+is_loaded Idle = false
 is_loaded (Loaded cell value) = true
-is_loaded phase = false
+is_loaded (Numbered cell n) = false
+is_loaded (Marked cell n) = false
+is_loaded (Fetched cell n old) = false
+is_loaded (Stored cell n old value) = false
+is_loaded (Looked monitor turn) = false
 
 -- whether a thread has this left: a write or an update that it has claimed, a read whose number it has not found even yet, or
 -- an exit at which it stands

@@ -48,8 +48,10 @@ put_person people who person other = if other == who then person else people oth
 
 -- values are the starting values of the cells, and all else is 0
 abbrev pub start_words : List ℕ → SharedWord → ℕ
+start_words starts Drawn = 0
 start_words starts (Value cell) = slice_index starts cell
-start_words starts word = 0
+start_words starts (Number cell) = 0
+start_words starts (Monitor monitor) = 0
 
 -- the state before any step
 abbrev pub start_state : List ℕ → State

@@ -10,7 +10,7 @@ use Rattle.sc_machine.specs.ThreadStep.{end_of}
 use Rattle.interleavings.specs.declared.acts.Acts.{Acts}
 use Rattle.interleavings.specs.declared.acts.OddLooks.{OddLooks}
 use Rattle.interleavings.specs.declared.acts.Phase.{Phase}
-use Rattle.interleavings.specs.declared.acts.Phase.TheVariants.{Idle, Numbered, Looked}
+use Rattle.interleavings.specs.declared.acts.Phase.TheVariants.{Idle, Loaded, Numbered, Marked, Fetched, Stored, Looked}
 use Rattle.interleavings.specs.declared.event.LogEntry.{LogEntry}
 use Rattle.interleavings.specs.AtomicStep.{Value}
 use Rattle.interleavings.specs.Events.{log_of}
@@ -48,9 +48,12 @@ pub record Recording : Type 0 where
 -- entered it
 abbrev pub IsAtRest : Phase → Type 0
 IsAtRest Idle = Unit {0}
+IsAtRest (Loaded cell value) = ⊥
 IsAtRest (Numbered cell n) = Unit {0}
+IsAtRest (Marked cell n) = ⊥
+IsAtRest (Fetched cell n old) = ⊥
+IsAtRest (Stored cell n old value) = ⊥
 IsAtRest (Looked monitor turn) = Unit {0}
-IsAtRest phase = ⊥
 
 -- the step is one of these
 abbrev pub Among : Step → List Step → Type 0
