@@ -22,6 +22,7 @@ use Rattle.interleavings.specs.History.{Person, after, greatest_seen, newcomer}
 use Rattle.interleavings.specs.Recording.{Setting, state_of, acts_of, IsEndAfter, IsRecording}
 use Rattle.interleavings.specs.Driving.{advance, advance_all, begun, driven, finished_within, recording_of, settle_all, stranger, whole_run}
 use Rattle.interleavings.proofs.FollowsLogs.{driven-followed}
+use Rattle.interleavings.proofs.MachineLaws.{MachineLaws}
 use Rattle.interleavings.proofs.Settling.{driven-history}
 
 -- what is looked at of a recording: its logs, its ends and its last values
@@ -285,12 +286,12 @@ given_up_ends (suc zero) end e = subst (λ (x : End). IsEndAfter (setting 2 one_
 given_up_ends (suc (suc t)) end e = cc
 
 -- so what this order gives is a recording
-is_recording : IsRecording (setting 2 one_monitor) (driven (setting 2 one_monitor) given_up)
+is_recording : MachineLaws → IsRecording (setting 2 one_monitor) (driven (setting 2 one_monitor) given_up)
 unfolding digits after local_steps settled advance advance_all finished_within begun driven recording_of settle_all whole_run stranger
-is_recording = record {
+is_recording laws = record {
   steps = (whole_run (setting 2 one_monitor) given_up).steps;
-  history = driven-history (setting 2 one_monitor) given_up refl;
-  followed = driven-followed (setting 2 one_monitor) given_up refl;
+  history = driven-history laws (setting 2 one_monitor) given_up refl;
+  followed = driven-followed laws (setting 2 one_monitor) given_up refl;
   ends = given_up_ends;
 }
 

@@ -12,7 +12,7 @@ use Rattle.interleavings.specs.Following.{Met, Makes, Over, Off, Followed, no_tu
 use Rattle.interleavings.specs.Walking.{is_exit, Walks}
 use Rattle.interleavings.specs.Laws.{IsWalk}
 use Rattle.interleavings.proofs.LogsUsed.{IsWithin, settled-within, after_event-within, makes_open, makes_next, ok, followed_same, no_place, event_followed}
-use Rattle.interleavings.proofs.Walks.{after_event-made}
+use Rattle.interleavings.proofs.MachineLaws.{MachineLaws, after_event-made}
 
 -- what was followed from here went to some state by its events, and made an instruction for each
 pub record HasGone (p : Listing) (fuel t : ℕ) (turns : ℕ → ℕ) (s : Thread) (f : Followed) : Type 0 where
@@ -32,7 +32,7 @@ over_inside (stops.Enter monitor) next turns met = refl
 over_inside (stops.Exit monitor) next turns met = cc
 over_inside (stops.Ended end) next turns met = refl
 
-module _ (p : Listing) (fuel t : ℕ) (log : List LogEntry) where
+module _ (laws : MachineLaws) (p : Listing) (fuel t : ℕ) (log : List LogEntry) where
   -- that what is followed for n events more has gone so
   abbrev Goes : ℕ → Type 0
   Goes n = (place : ℕ) (turns : ℕ → ℕ) (s : Thread) (f : Followed) → IsWithin fuel s → fuel < n + s.made → follow_from p fuel t log n place turns s ≡ ok f → HasGone p fuel t turns s f
@@ -47,14 +47,14 @@ module _ (p : Listing) (fuel t : ℕ) (log : List LogEntry) where
       let s' = after_event p fuel t event s in
       let g = event_followed event (follow_from p fuel t log n (place_after event place) (turns_after event turns) s') f followed in
       let unended = makes_open s.ended (row p (op_at p t s.pc) s.pc s.stack s.locals s.held) (slice_get log place) turns event e in
-      let rest = others (place_after event place) (turns_after event turns) s' g.0 (after_event-within p fuel t event s unended within) (omega (arith, beyond, after_event-made p fuel t event s)) g.1 in
+      let rest = others (place_after event place) (turns_after event turns) s' g.0 (after_event-within laws p fuel t event s unended within) (omega (arith, beyond, after_event-made laws p fuel t event s)) g.1 in
       subst (λ (x : Followed). HasGone p fuel t turns s x) g.2
       (record {
         last = rest.last;
         walks = ((makes_next (stop_of p t s) (slice_get log place) turns event e).met, rest.walks);
         inside = rest.inside;
         thread = rest.thread;
-        counted = omega (arith, rest.counted, after_event-made p fuel t event s);
+        counted = omega (arith, rest.counted, after_event-made laws p fuel t event s);
         made = rest.made;
       })
 
@@ -63,12 +63,12 @@ module _ (p : Listing) (fuel t : ℕ) (log : List LogEntry) where
   followed_goes zero place turns s f within beyond followed = absurd (omega (arith, beyond, within.made))
   followed_goes (suc n) place turns s f within beyond followed = met_goes n place turns s f (followed_goes n) within beyond (met_of (stop_of p t s) (slice_get log place) turns) refl followed
 
-pub follow-gone : (p : Listing) (fuel t : ℕ) (log : List LogEntry) (f : Followed) → 1 ≤ fuel → follow p fuel t log ≡ Ok f → HasGone p fuel t no_turns (settled p fuel t start_thread) f
+pub follow-gone : MachineLaws → (p : Listing) (fuel t : ℕ) (log : List LogEntry) (f : Followed) → 1 ≤ fuel → follow p fuel t log ≡ Ok f → HasGone p fuel t no_turns (settled p fuel t start_thread) f
 unfolding follow
-follow-gone p fuel t log f some followed = followed_goes p fuel t log (fuel + 1) 0 no_turns (settled p fuel t start_thread) f (settled-within p fuel t start_thread (record { left = λ e. omega arith; made = omega arith })) (omega arith) followed
+follow-gone laws p fuel t log f some followed = followed_goes laws p fuel t log (fuel + 1) 0 no_turns (settled p fuel t start_thread) f (settled-within laws p fuel t start_thread (record { left = λ e. omega arith; made = omega arith })) (omega arith) followed
 
 -- the events lead to where the thread was stopped
-pub followed-walk : (p : Listing) (fuel t : ℕ) (log : List LogEntry) (f : Followed) → 1 ≤ fuel → follow p fuel t log ≡ Ok f → (last : Thread) × IsWalk p fuel t f.events last × (f.thread ≡ stopped last)
-followed-walk p fuel t log f some followed =
-    let gone = follow-gone p fuel t log f some followed in
+pub followed-walk : MachineLaws → (p : Listing) (fuel t : ℕ) (log : List LogEntry) (f : Followed) → 1 ≤ fuel → follow p fuel t log ≡ Ok f → (last : Thread) × IsWalk p fuel t f.events last × (f.thread ≡ stopped last)
+followed-walk laws p fuel t log f some followed =
+    let gone = follow-gone laws p fuel t log f some followed in
     (gone.last, record { walks = gone.walks; inside = gone.inside }, gone.thread)

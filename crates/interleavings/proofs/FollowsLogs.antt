@@ -13,8 +13,9 @@ use Rattle.interleavings.specs.Recording.{Setting, acts_of, IsFollowed}
 use Rattle.interleavings.specs.Driving.{Drive, thread_of, whole_run, recording_of, driven, stranger}
 use Rattle.interleavings.specs.Walking.{is_exit}
 use Rattle.interleavings.proofs.Advances.{IsRun}
+use Rattle.interleavings.proofs.MachineLaws.{MachineLaws, start-alive}
 use Rattle.interleavings.proofs.Settling.{settled_run, order-resting, stop_at}
-use Rattle.interleavings.proofs.Walked.{HasWalked, start-alive}
+use Rattle.interleavings.proofs.Walked.{HasWalked}
 use Rattle.interleavings.proofs.Walks.{walks_followed}
 
 -- what following the log of a thread of a run comes to
@@ -32,14 +33,14 @@ same_end s last P (inl same) = sym (ap stopped same)
 same_end s last P (inr (same, p)) = sym (ap stopped same)
 
 -- a thread of a run that stands at no exit is followed through its events by its log
-pub thread_followed : (g : Setting) (d : Drive) (t : ℕ) → t < length g.program.threads → IsRun g d → is_exit (stop_at g d t) ≡ false → follow g.program g.fuel t (log_of (acts_of g d.steps t).events) ≡ Ok (followed_in g d t)
+pub thread_followed : MachineLaws → (g : Setting) (d : Drive) (t : ℕ) → t < length g.program.threads → IsRun g d → is_exit (stop_at g d t) ≡ false → follow g.program g.fuel t (log_of (acts_of g d.steps t).events) ≡ Ok (followed_in g d t)
 unfolding follow
-thread_followed g d t there run inside =
+thread_followed laws g d t there run inside =
     let p = g.program in
     let s = thread_of d t in
     let done = (acts_of g d.steps t).events in
     let w : HasWalked g t s done (acts_of g d.steps t).held = run.walked t there in
-    walks_followed p g.fuel t (log_of done) (g.fuel + 1) [] done no_turns (settled p g.fuel t start_thread) w.last refl (start-alive p g.fuel t) (omega arith) (inside_last g t s w.last inside w.stands) w.walks
+    walks_followed laws p g.fuel t (log_of done) (g.fuel + 1) [] done no_turns (settled p g.fuel t start_thread) w.last refl (start-alive laws p g.fuel t) (omega arith) (inside_last g t s w.last inside w.stands) w.walks
     ∙ ap (λ (x : Thread). Ok (record { events = done; thread = x })) (same_end s w.last _ w.stands)
 
 -- threads one after another, each followed by its log
@@ -61,18 +62,18 @@ events_alike g d [] = refl
 events_alike g d (t ∷ ns) = ap (λ rest. (acts_of g d.steps t).events ∷ rest) (events_alike g d ns)
 
 -- what an order gives is followed through the events of its run's steps
-pub driven-followed : (g : Setting) (order : List ℕ) → stranger (length g.program.threads) order ≡ None → IsFollowed g (driven g order) (whole_run g order).steps
+pub driven-followed : MachineLaws → (g : Setting) (order : List ℕ) → stranger (length g.program.threads) order ≡ None → IsFollowed g (driven g order) (whole_run g order).steps
 unfolding driven recording_of whole_run follow_all
-driven-followed g order known =
+driven-followed laws g order known =
     let n = length g.program.threads in
     let ts = thread_numbers g.program in
     let d = settled_run g order in
-    let settles = order-resting g order known in
+    let settles = order-resting laws g order known in
     let run : IsRun g d = settles.0.0 in
     let threads : d.threads ≡ map (thread_of d) ts = fill_by_all (thread_of d) d.threads n start_thread run.count (λ t below. refl) in
     record {
       followed = map (followed_in g d) ts;
-      follows = each_followed g.program g.fuel (λ t. log_of (acts_of g d.steps t).events) (followed_in g d) n (λ t below. thread_followed g d t below run (settles.1 t below)) 0 n (omega arith);
+      follows = each_followed g.program g.fuel (λ t. log_of (acts_of g d.steps t).events) (followed_in g d) n (λ t below. thread_followed laws g d t below run (settles.1 t below)) 0 n (omega arith);
       events = events_alike g d ts;
       outputs = seen_alike (λ (s : Thread). s.out) g d ts ∙ sym (ap (λ l. map (λ (s : Thread). s.out) (map stopped l)) threads);
       ends = seen_alike end_of g d ts ∙ sym (ap (λ l. map end_of (map stopped l)) threads);

@@ -22,8 +22,8 @@ use Rattle.interleavings.proofs.Advances.{IsRun, advance-run}
 use Rattle.interleavings.proofs.Beginning.{begun-run, begun-calm}
 use Rattle.interleavings.proofs.InPlace.{AreInPlace, IsInPlaceAfter, in_place_after}
 use Rattle.interleavings.proofs.NextSteps.{step_at}
-use Rattle.interleavings.proofs.Reaching.{reached-settled}
-use Rattle.interleavings.proofs.Settling.{settled_run, order-resting}
+use Rattle.interleavings.proofs.Reaching.{reached-run, reached-settled}
+use Rattle.interleavings.proofs.Settling.{settled_run}
 use Rattle.interleavings.proofs.StepPeople.{step_here, step_elsewhere}
 use Rattle.interleavings.proofs.Strangers.{known_first}
 
@@ -118,4 +118,4 @@ unfolding driven recording_of whole_run
 driven-gives_up g order known t below gives =
     let d = settled_run g order in
     let s = thread_of d t in
-    (s.pc, end_at d.threads t (omega (arith, (order-resting g order known).0.0.count)) ∙ ap (λ ended. Some (unwrap_or ended (Stopped s.pc))) (settled-stopped g order known t below gives))
+    (s.pc, end_at d.threads t (omega (arith, (reached-run g d (reached-settled g order known)).count)) ∙ ap (λ ended. Some (unwrap_or ended (Stopped s.pc))) (settled-stopped g order known t below gives))

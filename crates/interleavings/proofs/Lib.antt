@@ -17,6 +17,7 @@ pub mod HeldFlags
 pub mod InPlace
 pub mod LetGo
 pub mod LogsUsed
+pub mod MachineLaws
 pub mod NextSteps
 pub mod OddNumbers
 pub mod Reaching

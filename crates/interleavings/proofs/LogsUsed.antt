@@ -9,7 +9,7 @@ use Rattle.sc_machine.specs.declared.stop.Stop.{Stop}
 use Rattle.sc_machine.specs.declared.stop.Stop.TheVariants as stops
 use Rattle.sc_machine.specs.ThreadStep.{Thread, Row, Goes, Ends, Stands, start_thread, row, now_unless, moved, local_step, local_steps, settled, answered, stop_in, stop_of}
 use Rattle.sc_machine.specs.Schedule.{stopped}
-use Rattle.sc_machine.proofs.Standing.{HasFuel, moved-has_fuel, settled-has_fuel, answered-has_fuel}
+use Rattle.sc_machine.specs.Laws.{HasFuel}
 use Rattle.interleavings.specs.declared.event.Event.{Event}
 use Rattle.interleavings.specs.declared.event.Event.TheVariants as events
 use Rattle.interleavings.specs.declared.event.LogEntry.{LogEntry}
@@ -18,7 +18,8 @@ use Rattle.interleavings.specs.Events.{entry_of, log_of, word_given}
 use Rattle.interleavings.specs.Walking.{IsMet}
 use Rattle.interleavings.specs.EventStep.{after_event}
 use Rattle.interleavings.specs.Following.{Met, Makes, Over, Off, Followed, met_of, on_met, event_before, place_after, turns_after, follow_from, follow, no_turns}
-use Rattle.interleavings.proofs.Walks.{after_event-made, entry_at_seam, place_moved, front_moved}
+use Rattle.interleavings.proofs.MachineLaws.{MachineLaws, after_event-made}
+use Rattle.interleavings.proofs.Walks.{entry_at_seam, place_moved, front_moved}
 
 -- a thread has made no more instructions than its fuel
 pub record IsWithin (fuel : ℕ) (s : Thread) : Type 0 where
@@ -32,22 +33,22 @@ moved-made fuel s None (Ends end) e within = omega (arith, within.left e)
 moved-made fuel s None (Stands stop) e within = within.made
 moved-made fuel s (Some end) r e within = within.made
 
-local_steps-made : (p : Listing) (fuel t n : ℕ) (s : Thread) → IsWithin fuel s → (local_steps p fuel t n s).made ≤ fuel
+local_steps-made : MachineLaws → (p : Listing) (fuel t n : ℕ) (s : Thread) → IsWithin fuel s → (local_steps p fuel t n s).made ≤ fuel
 unfolding local_steps
-local_steps-made p fuel t zero s within = within.made
-local_steps-made p fuel t (suc n) s within = local_steps-made p fuel t n (local_step p fuel t s) (record {
-  left = moved-has_fuel fuel _ s within.left;
+local_steps-made laws p fuel t zero s within = within.made
+local_steps-made laws p fuel t (suc n) s within = local_steps-made laws p fuel t n (local_step p fuel t s) (record {
+  left = laws.moved fuel _ s within.left;
   made = moved-made fuel s s.ended (row p (op_at p t s.pc) s.pc s.stack s.locals s.held) refl within;
 })
 
-pub settled-within : (p : Listing) (fuel t : ℕ) (s : Thread) → IsWithin fuel s → IsWithin fuel (settled p fuel t s)
+pub settled-within : MachineLaws → (p : Listing) (fuel t : ℕ) (s : Thread) → IsWithin fuel s → IsWithin fuel (settled p fuel t s)
 unfolding settled
-settled-within p fuel t s within = record { left = settled-has_fuel p fuel t s within.left; made = local_steps-made p fuel t (fuel - s.made) s within }
+settled-within laws p fuel t s within = record { left = laws.settled p fuel t s within.left; made = local_steps-made laws p fuel t (fuel - s.made) s within }
 
 -- after an event, before which it had not ended
-pub after_event-within : (p : Listing) (fuel t : ℕ) (event : Event) (s : Thread) → s.ended ≡ None → IsWithin fuel s → IsWithin fuel (after_event p fuel t event s)
-after_event-within p fuel t event s unended within =
-    settled-within p fuel t (answered p fuel t (word_given event) s) (record { left = answered-has_fuel p fuel t (word_given event) s; made = omega (arith, within.left unended) })
+pub after_event-within : MachineLaws → (p : Listing) (fuel t : ℕ) (event : Event) (s : Thread) → s.ended ≡ None → IsWithin fuel s → IsWithin fuel (after_event p fuel t event s)
+after_event-within laws p fuel t event s unended within =
+    settled-within laws p fuel t (answered p fuel t (word_given event) s) (record { left = laws.answered p fuel t (word_given event) s; made = omega (arith, within.left unended) })
 
 -- a thread that makes an event has not ended
 pub makes_open : (ended : Option End) (r : Row) (next : Option LogEntry) (turns : ℕ → ℕ) (event : Event) → met_of (stop_in (now_unless ended r)) next turns ≡ Makes event → ended ≡ None
@@ -181,7 +182,7 @@ event_followed event (Err place) f e = absurd (no_place place f e)
 log_before : (event : Event) (es : List Event) → log_of (event ∷ es) ≡ used_by event ++ log_of es
 log_before event es = front_moved [] event es
 
-module _ (p : Listing) (fuel t : ℕ) (log : List LogEntry) where
+module _ (laws : MachineLaws) (p : Listing) (fuel t : ℕ) (log : List LogEntry) where
   -- that what is followed for n events more has the log that is left
   abbrev Uses : ℕ → Type 0
   Uses n = (front rest : List LogEntry) (turns : ℕ → ℕ) (s : Thread) (f : Followed) → log ≡ front ++ rest → IsWithin fuel s → fuel < n + s.made → follow_from p fuel t log n (length front) turns s ≡ ok f → log_of f.events ≡ rest
@@ -202,7 +203,7 @@ module _ (p : Listing) (fuel t : ℕ) (log : List LogEntry) where
       let after_it : log ≡ front' ++ used.0 = whole ∙ ap (λ l. front ++ l) used.1 ∙ sym (append_assoc front (used_by event) used.0) in
       let rest_followed : follow_from p fuel t log n (length front') (turns_after event turns) s' ≡ ok g.0 =
       sym (ap (λ place. follow_from p fuel t log n place (turns_after event turns) s') (place_moved front event)) ∙ g.1 in
-      let left : log_of g.0.events ≡ used.0 = others front' used.0 (turns_after event turns) s' g.0 after_it (after_event-within p fuel t event s unended within) (omega (arith, beyond, after_event-made p fuel t event s)) rest_followed in
+      let left : log_of g.0.events ≡ used.0 = others front' used.0 (turns_after event turns) s' g.0 after_it (after_event-within laws p fuel t event s unended within) (omega (arith, beyond, after_event-made laws p fuel t event s)) rest_followed in
       ap (λ (x : Followed). log_of x.events) (sym g.2) ∙ log_before event g.0.events ∙ ap (λ l. used_by event ++ l) left ∙ sym used.1
 
   followed_uses : (n : ℕ) → Uses n
@@ -210,6 +211,6 @@ module _ (p : Listing) (fuel t : ℕ) (log : List LogEntry) where
   followed_uses zero front rest turns s f whole within beyond followed = absurd (omega (arith, beyond, within.made))
   followed_uses (suc n) front rest turns s f whole within beyond followed = met_uses n front rest turns s f (followed_uses n) whole within beyond (met_of (stop_of p t s) (slice_get log (length front)) turns) refl followed
 
-pub log_is_used : (p : Listing) (fuel t : ℕ) (log : List LogEntry) (f : Followed) → 1 ≤ fuel → follow p fuel t log ≡ Ok f → log_of f.events ≡ log
+pub log_is_used : MachineLaws → (p : Listing) (fuel t : ℕ) (log : List LogEntry) (f : Followed) → 1 ≤ fuel → follow p fuel t log ≡ Ok f → log_of f.events ≡ log
 unfolding follow
-log_is_used p fuel t log f some followed = followed_uses p fuel t log (fuel + 1) [] log no_turns (settled p fuel t start_thread) f refl (settled-within p fuel t start_thread (record { left = λ e. omega arith; made = omega arith })) (omega arith) followed
+log_is_used laws p fuel t log f some followed = followed_uses laws p fuel t log (fuel + 1) [] log no_turns (settled p fuel t start_thread) f refl (settled-within laws p fuel t start_thread (record { left = λ e. omega arith; made = omega arith })) (omega arith) followed

@@ -23,6 +23,7 @@ use Rattle.interleavings.proofs.OddNumbers.{Claims}
 use Rattle.interleavings.proofs.InPlace.{IsPhaseAt}
 use Rattle.interleavings.proofs.Advances.{IsRun, advance-run, advance_all-run}
 use Rattle.interleavings.proofs.Exits.{exit_falls}
+use Rattle.interleavings.proofs.MachineLaws.{MachineLaws}
 use Rattle.interleavings.proofs.StepPeople.{step_here, step_elsewhere}
 use Rattle.interleavings.proofs.Beginning.{begun-run}
 
@@ -200,7 +201,7 @@ even_without_claims g d run free cell = true_from_ne_false (is_even ((state_of g
     let w = run.odd cell odd in
     true≢false (sym (claims_tell cell (phase_of g d w.0) w.2) ∙ free w.0 w.1))
 
-module _ (g : Setting) (t : ℕ) (there : t < length g.program.threads) where
+module _ (laws : MachineLaws) (g : Setting) (t : ℕ) (there : t < length g.program.threads) where
   -- what a thread has claimed is finished, and the others' phases stay
   claim-done : (d : Drive) → IsRun g d → IsDone Phase (phase_of g) (IsRun g) (λ phase. has_claimed phase ≡ false) t d (finished rests.Write g t d)
   claim-done d run =
@@ -259,30 +260,30 @@ module _ (g : Setting) (t : ℕ) (there : t < length g.program.threads) where
       let last = finished-keeps rests.Exits g t Good keeps (g.fuel + 3) d (start.0, λ u. refl, λ u other. refl) in
       record {
         good = (last.0, λ u below. subst IsAtRest (sym (last.1 u)) (start.1 u below));
-        wanted = finished-ends rests.Exits g t Good keeps left (λ x e good. exit_falls g t x there e good.0) (g.fuel + 3) d (start.0, λ u. refl, λ u other. refl) (omega arith);
+        wanted = finished-ends rests.Exits g t Good keeps left (λ x e good. exit_falls laws g t x there e good.0) (g.fuel + 3) d (start.0, λ u. refl, λ u other. refl) (omega arith);
         others = λ u other. ap (λ s. stop_of g.program u s) (last.2 u other);
       }
 
 -- a run that has settled is a history after which the program's threads are at rest, and none stands at an exit
-pub settled-resting : (g : Setting) (d : Drive) → IsRun g d → IsResting g (settle_all g d) × AreAll Stop (stop_at g) (λ stop. is_exit stop ≡ false) (length g.program.threads) (settle_all g d)
+pub settled-resting : MachineLaws → (g : Setting) (d : Drive) → IsRun g d → IsResting g (settle_all g d) × AreAll Stop (stop_at g) (λ stop. is_exit stop ≡ false) (length g.program.threads) (settle_all g d)
 unfolding settle_all
-settled-resting g d run =
+settled-resting laws g d run =
     let n = length g.program.threads in
     let ts = thread_numbers g.program in
     let whole : 0 + n ≡ n = omega arith in
-    let claims = all-done Phase (phase_of g) g rests.Write (IsRun g) (λ phase. has_claimed phase ≡ false) (claim-done g) 0 n d whole run (λ t below. absurd (omega arith)) in
+    let claims = all-done Phase (phase_of g) g rests.Write (IsRun g) (λ phase. has_claimed phase ≡ false) (claim-done laws g) 0 n d whole run (λ t below. absurd (omega arith)) in
     let written = finished_by_all rests.Write g ts d in
-    let loads = all-done Phase (phase_of g) g rests.Read (λ x. IsRun g x × NoClaims g x) IsAtRest (read-done g) 0 n written whole claims (λ t below. absurd (omega arith)) in
+    let loads = all-done Phase (phase_of g) g rests.Read (λ x. IsRun g x × NoClaims g x) IsAtRest (read-done laws g) 0 n written whole claims (λ t below. absurd (omega arith)) in
     let read = finished_by_all rests.Read g ts written in
-    all-done Stop (stop_at g) g rests.Exits (IsResting g) (λ stop. is_exit stop ≡ false) (exit-done g) 0 n read whole (loads.0.0, loads.1) (λ t below. absurd (omega arith))
+    all-done Stop (stop_at g) g rests.Exits (IsResting g) (λ stop. is_exit stop ≡ false) (exit-done laws g) 0 n read whole (loads.0.0, loads.1) (λ t below. absurd (omega arith))
 
 -- the run of an order once it has settled, before the threads are stopped
 abbrev pub settled_run : Setting → List ℕ → Drive
 settled_run g order = settle_all g (advance_all g order (begun g))
 
 -- it is such a run
-pub order-resting : (g : Setting) (order : List ℕ) → stranger (length g.program.threads) order ≡ None → IsResting g (settled_run g order) × AreAll Stop (stop_at g) (λ stop. is_exit stop ≡ false) (length g.program.threads) (settled_run g order)
-order-resting g order known = settled-resting g (advance_all g order (begun g)) (advance_all-run g order (begun g) known (begun-run g))
+pub order-resting : MachineLaws → (g : Setting) (order : List ℕ) → stranger (length g.program.threads) order ≡ None → IsResting g (settled_run g order) × AreAll Stop (stop_at g) (λ stop. is_exit stop ≡ false) (length g.program.threads) (settled_run g order)
+order-resting laws g order known = settled-resting laws g (advance_all g order (begun g)) (advance_all-run g order (begun g) known (begun-run g))
 
 -- a thread at rest has neither claimed nor loaded
 rest_tells : (phase : Phase) → IsAtRest phase → (has_claimed phase ≡ false) × (is_loaded phase ≡ false)
@@ -292,10 +293,10 @@ rest_tells (Looked monitor turn) rest = (refl, refl)
 rest_tells phase rest = absurd rest
 
 -- nothing is left of anything then
-pub nothing-left : (g : Setting) (order : List ℕ) → stranger (length g.program.threads) order ≡ None → (rest : Rest) (t : ℕ) → t < length g.program.threads → is_left rest g t (settled_run g order) ≡ false
-nothing-left g order known rests.Write t below = (rest_tells (phase_of g (settled_run g order) t) ((order-resting g order known).0.1 t below)).0
-nothing-left g order known rests.Read t below = (rest_tells (phase_of g (settled_run g order) t) ((order-resting g order known).0.1 t below)).1
-nothing-left g order known rests.Exits t below = (order-resting g order known).1 t below
+pub nothing-left : MachineLaws → (g : Setting) (order : List ℕ) → stranger (length g.program.threads) order ≡ None → (rest : Rest) (t : ℕ) → t < length g.program.threads → is_left rest g t (settled_run g order) ≡ false
+nothing-left laws g order known rests.Write t below = (rest_tells (phase_of g (settled_run g order) t) ((order-resting laws g order known).0.1 t below)).0
+nothing-left laws g order known rests.Read t below = (rest_tells (phase_of g (settled_run g order) t) ((order-resting laws g order known).0.1 t below)).1
+nothing-left laws g order known rests.Exits t below = (order-resting laws g order known).1 t below
 
 -- nobody but those who made the steps has done anything
 outsider : (g : Setting) (steps : List Step) (n t : ℕ) → ((s : Step) → Among s steps → s.who < n) → n ≤ t → acts_of g steps t ≡ newcomer.acts
@@ -304,11 +305,11 @@ outsider g [] n t members past = refl
 outsider g (s ∷ steps) n t members past = step_elsewhere g s steps t (λ same. omega (arith, members s (inl refl))) ∙ outsider g steps n t (λ other among. members other (inr among)) past
 
 -- what an order gives is a recording of its run's steps, which are a history after which each thread is at rest
-pub driven-history : (g : Setting) (order : List ℕ) → stranger (length g.program.threads) order ≡ None → IsHistoryOf g (driven g order) (whole_run g order).steps
+pub driven-history : MachineLaws → (g : Setting) (order : List ℕ) → stranger (length g.program.threads) order ≡ None → IsHistoryOf g (driven g order) (whole_run g order).steps
 unfolding driven recording_of whole_run
-driven-history g order known =
+driven-history laws g order known =
     let n = length g.program.threads in
-    let resting = (order-resting g order known).0 in
+    let resting = (order-resting laws g order known).0 in
     let steps = (whole_run g order).steps in
     record {
       lawful = resting.0.lawful;

@@ -12,6 +12,7 @@ use Rattle.interleavings.specs.Driving.{driven, recording_of, whole_run, strange
 use Rattle.interleavings.proofs.FollowedWalks.{follow-gone}
 use Rattle.interleavings.proofs.FollowsLogs.{followed_in, thread_followed}
 use Rattle.interleavings.proofs.LogsUsed.{log_is_used}
+use Rattle.interleavings.proofs.MachineLaws.{MachineLaws}
 use Rattle.interleavings.proofs.Settling.{settled_run, order-resting}
 
 -- each event leaves one entry at most
@@ -24,21 +25,21 @@ log_of-length (events.Enter monitor turn ∷ es) = omega (arith, log_of-length e
 log_of-length (events.Exit monitor turn ∷ es) = omega (arith, log_of-length es)
 
 -- each event is an instruction, and the log was used up by the events
-pub followed-short : (p : Listing) (fuel t : ℕ) (log : List LogEntry) (f : Followed) → 1 ≤ fuel → follow p fuel t log ≡ Ok f → length log ≤ fuel
-followed-short p fuel t log f some followed =
-    let gone = follow-gone p fuel t log f some followed in
-    omega (arith, ap length (log_is_used p fuel t log f some followed), log_of-length f.events, gone.counted, gone.made)
+pub followed-short : MachineLaws → (p : Listing) (fuel t : ℕ) (log : List LogEntry) (f : Followed) → 1 ≤ fuel → follow p fuel t log ≡ Ok f → length log ≤ fuel
+followed-short laws p fuel t log f some followed =
+    let gone = follow-gone laws p fuel t log f some followed in
+    omega (arith, ap length (log_is_used laws p fuel t log f some followed), log_of-length f.events, gone.counted, gone.made)
 
 -- what holds at each number of a range holds of each item that is made of one
 each_made : {X : Type 0} (P : X → Type 0) (f : ℕ → X) (n i k : ℕ) → ((t : ℕ) → t < n → P (f t)) → i + k ≡ n → AllByRecursion P (map f (range_with_len i k))
 each_made P f n i zero each e = tt
 each_made P f n i (suc k) each e = (each i (omega arith), each_made P f n (i + 1) k each (omega arith))
 
-pub driven-short : (g : Setting) (order : List ℕ) → 1 ≤ g.fuel → stranger (length g.program.threads) order ≡ None → AllByRecursion (λ log. length log ≤ g.fuel) (driven g order).logs
+pub driven-short : MachineLaws → (g : Setting) (order : List ℕ) → 1 ≤ g.fuel → stranger (length g.program.threads) order ≡ None → AllByRecursion (λ log. length log ≤ g.fuel) (driven g order).logs
 unfolding driven recording_of whole_run
-driven-short g order some known =
+driven-short laws g order some known =
     let d = settled_run g order in
-    let settles = order-resting g order known in
+    let settles = order-resting laws g order known in
     each_made (λ (log : List LogEntry). length log ≤ g.fuel) (λ t. log_of (acts_of g d.steps t).events) (length g.program.threads) 0 (length g.program.threads)
-    (λ t below. followed-short g.program g.fuel t (log_of (acts_of g d.steps t).events) (followed_in g d t) some (thread_followed g d t below settles.0.0 (settles.1 t below)))
+    (λ t below. followed-short laws g.program g.fuel t (log_of (acts_of g d.steps t).events) (followed_in g d t) some (thread_followed laws g d t below settles.0.0 (settles.1 t below)))
     (omega arith)

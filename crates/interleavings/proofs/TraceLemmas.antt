@@ -1,10 +1,9 @@
 -- Lists of events and of starting values.
 use Rattle.std.proofs.Common.{◌≡◌, ◌∙◌, ℕ, ◌+◌, ◌<◌, zero, suc, List, [], ◌∷◌, ◌++◌, length, get_or, set, map, take, replicate, refl, sym, ap, subst, arith}
-use Rattle.std.specs.List.{AllByRecursion, sum_by}
-use Rattle.std.proofs.lemmas.List.{length-map, length-replicate, map-set, replicate-append-replicate, take_more, take_all}
-use Rattle.std.proofs.lemmas.List.Sums.{sum_by-cons}
-use Rattle.std.proofs.lemmas.List.Concat.{length-flat_map}
-use Rattle.stride_isa.specs.Listing.{cell_count, cells_of, starts_of}
+use Rattle.std.specs.List.{AllByRecursion}
+use Rattle.std.proofs.lemmas.List.{length-map, map-set, replicate-append-replicate, take_more, take_all}
+use Rattle.stride_isa.specs.Listing.{cell_count, starts_of}
+use Rattle.stride_isa.specs.Laws.{EachCellStarts}
 use Rattle.stride_isa.specs.declared.decl.Decl.{Decl}
 use Rattle.interleavings.specs.declared.event.Event.{Event}
 
@@ -12,23 +11,14 @@ use Rattle.interleavings.specs.declared.event.Event.{Event}
 pub replicate_more : {X : Type 0} (n : ℕ) (x : X) → replicate n x ++ x ∷ [] ≡ replicate (n + 1) x
 replicate_more n x = replicate-append-replicate n 1 x
 
-starts_by : (decls : List Decl) → sum_by (λ (d : Decl). length (replicate (cells_of d.shape) d.start)) decls ≡ cell_count decls
-starts_by [] = refl
-starts_by (d ∷ decls) =
-    omega (arith, length-replicate (cells_of d.shape) d.start, starts_by decls, sum_by-cons (λ (d : Decl). length (replicate (cells_of d.shape) d.start)) d decls, sum_by-cons (λ (d : Decl). cells_of d.shape) d decls)
-
--- each cell has a starting value
-pub length-starts : (decls : List Decl) → length (starts_of decls) ≡ cell_count decls
-length-starts decls = length-flat_map (λ (d : Decl). replicate (cells_of d.shape) d.start) decls ∙ starts_by decls
-
 -- the starting values so far, and one more
-pub starts_more : (decls : List Decl) (starts : List ℕ) (cell : ℕ) (value : ℕ) → cell < cell_count decls → starts ≡ take cell (starts_of decls) → value ≡ get_or (starts_of decls) cell 0 → starts ++ value ∷ [] ≡ take (cell + 1) (starts_of decls)
-starts_more decls starts cell value below so_far is =
-    let inside : cell < length (starts_of decls) = omega (arith, length-starts decls) in
+pub starts_more : EachCellStarts → (decls : List Decl) (starts : List ℕ) (cell : ℕ) (value : ℕ) → cell < cell_count decls → starts ≡ take cell (starts_of decls) → value ≡ get_or (starts_of decls) cell 0 → starts ++ value ∷ [] ≡ take (cell + 1) (starts_of decls)
+starts_more law decls starts cell value below so_far is =
+    let inside : cell < length (starts_of decls) = omega (arith, law decls) in
     rw (so_far, is) (sym (take_more (starts_of decls) cell 0 inside))
 
-pub starts_all : (decls : List Decl) (count : ℕ) → count ≡ cell_count decls → take count (starts_of decls) ≡ starts_of decls
-starts_all decls count is = take_all count (starts_of decls) (omega (arith, length-starts decls))
+pub starts_all : EachCellStarts → (decls : List Decl) (count : ℕ) → count ≡ cell_count decls → take count (starts_of decls) ≡ starts_of decls
+starts_all law decls count is = take_all count (starts_of decls) (omega (arith, law decls))
 
 -- what holds of each item holds of the one at an index
 pub each_at : {X : Type 0} (P : X → Type 0) (xs : List X) (i : ℕ) (d : X) → i < length xs → AllByRecursion P xs → P (get_or xs i d)

@@ -1,12 +1,10 @@
 -- A thread of a run came to where it stands by its events, and does so still after a step.
-use Rattle.std.proofs.Common.{◌≡◌, ℕ, zero, suc, false, List, [], ◌∷◌, ◌++◌, Option, Some, None, refl, sym, ◌∙◌, ap, subst, inl, inr, arith}
+use Rattle.std.proofs.Common.{◌≡◌, ℕ, false, List, [], ◌∷◌, ◌++◌, Option, Some, None, refl, sym, ◌∙◌, ap, subst, inl, inr}
 use Rattle.std.proofs.lemmas.Bool.{cond_both}
 use Rattle.std.specs.Prelude.{◌⊎◌}
-use Rattle.stride_isa.specs.Listing.{Listing}
 use Rattle.sc_machine.specs.ThreadRun.{IsShared}
-use Rattle.sc_machine.specs.ThreadStep.{Thread, start_thread, local_steps, settled, stop_of}
+use Rattle.sc_machine.specs.ThreadStep.{Thread, start_thread, settled, stop_of}
 use Rattle.sc_machine.specs.Schedule.{stopped}
-use Rattle.sc_machine.proofs.Standing.{settled-has_fuel}
 use Rattle.interleavings.specs.declared.acts.HeldTurn.{HeldTurn}
 use Rattle.interleavings.specs.declared.acts.OddLooks.{OddLooks}
 use Rattle.interleavings.specs.declared.event.Event.{Event}
@@ -18,7 +16,7 @@ use Rattle.interleavings.specs.Following.{no_turns}
 use Rattle.interleavings.specs.Walking.{is_exit, IsMet, Walks}
 use Rattle.interleavings.specs.EventStep.{after_event}
 use Rattle.interleavings.proofs.Finishes.{HasEntered, IsFinished}
-use Rattle.interleavings.proofs.Walks.{IsAlive, after_event-alive, turns_by, turns_by-on, walks_on}
+use Rattle.interleavings.proofs.Walks.{turns_by, turns_by-on, walks_on}
 
 -- the thread came to where it stands by these events, or gave up there, which it does at no exit; the turns that it holds
 -- are those of its last entries
@@ -27,16 +25,11 @@ pub record HasWalked (g : Setting) (t : ℕ) (s : Thread) (done : List Event) (h
   pub walks : Walks g.program g.fuel t done no_turns (settled g.program g.fuel t start_thread) last
   pub stands : (s ≡ last) ⊎ ((s ≡ stopped last) × (is_exit (stop_of g.program t last) ≡ false))
   pub entered : HasEntered held (turns_by done no_turns)
-  pub alive : IsAlive g.fuel s
 
 -- a thread at a shared instruction has not given up
-not_given_up : (g : Setting) (t : ℕ) (s last : Thread) → IsShared (stop_of g.program t s) → (s ≡ last) ⊎ ((s ≡ stopped last) × (is_exit (stop_of g.program t last) ≡ false)) → s ≡ last
+pub not_given_up : (g : Setting) (t : ℕ) (s last : Thread) → IsShared (stop_of g.program t s) → (s ≡ last) ⊎ ((s ≡ stopped last) × (is_exit (stop_of g.program t last) ≡ false)) → s ≡ last
 not_given_up g t s last shared (inl same) = same
 not_given_up g t s last shared (inr (same, inside)) = absurd (subst (λ (x : Thread). IsShared (stop_of g.program t x)) same shared)
-
--- a thread that gives up has an end
-given_up-alive : (fuel : ℕ) (s : Thread) → IsAlive fuel (stopped s)
-given_up-alive fuel s = inl (λ e. cc)
 
 -- by what the step finished
 pub thread_after-walked : (g : Setting) (t : ℕ) (s : Thread) (done : List Event) (old new : List HeldTurn) (finished : Option Event) (row : Option OddLooks) → IsShared (stop_of g.program t s) → HasWalked g t s done old → IsFinished (stop_of g.program t s) (turns_by done no_turns) old new finished → HasWalked g t (thread_after g t finished row s) (with_event done finished) new
@@ -48,7 +41,6 @@ thread_after-walked g t s done old new (Some event) row shared walked finishes =
           (walks_on g.program g.fuel t done no_turns (settled g.program g.fuel t start_thread) walked.last event walked.walks (subst (λ (x : Thread). IsMet (stop_of g.program t x) (turns_by done no_turns) event) same finishes.0));
       stands = inl refl;
       entered = subst (λ (turns : ℕ → ℕ). HasEntered new turns) (sym (turns_by-on done no_turns event)) finishes.1;
-      alive = after_event-alive g.program g.fuel t event s;
     }
 thread_after-walked g t s done old new None row shared walked finishes =
     let same : s ≡ walked.last = not_given_up g t s walked.last shared walked.stands in
@@ -59,21 +51,13 @@ thread_after-walked g t s done old new None row shared walked finishes =
       walks = walked.walks;
       stands = inr (ap stopped same, sym (ap (λ (x : Thread). is_exit (stop_of g.program t x)) same) ∙ finishes.1);
       entered = entered;
-      alive = given_up-alive g.fuel s;
     })
     (λ calm. record {
       last = walked.last;
       walks = walked.walks;
       stands = inl same;
       entered = entered;
-      alive = walked.alive;
     })
-
--- after its local start a thread has fuel left where it has not ended, or it has none from the start
-pub start-alive : (p : Listing) (fuel t : ℕ) → IsAlive fuel (settled p fuel t start_thread)
-unfolding settled local_steps
-start-alive p zero t = inr refl
-start-alive p (suc n) t = inl (settled-has_fuel p (suc n) t start_thread (λ e. omega arith))
 
 -- a thread that has made no event and holds nothing
 pub start-walked : (g : Setting) (t : ℕ) → HasWalked g t (settled g.program g.fuel t start_thread) [] []
@@ -82,5 +66,4 @@ start-walked g t = record {
   walks = refl;
   stands = inl refl;
   entered = λ monitor turn e. cc;
-  alive = start-alive g.program g.fuel t;
 }

@@ -1,25 +1,24 @@
 -- Following the log of a thread that goes from event to event gives these events.
-use Rattle.std.proofs.Common.{◌≡◌, ℕ, zero, suc, ◌+◌, ◌-◌, ◌<◌, false, List, [], ◌∷◌, ◌++◌, Option, Some, None, Ok, length, refl, sym, ◌∙◌, ap, subst, inl, inr, arith, append_assoc, length-append}
+use Rattle.std.proofs.Common.{◌≡◌, ℕ, zero, suc, ◌+◌, ◌<◌, false, List, [], ◌∷◌, ◌++◌, Option, Some, None, Ok, length, refl, sym, ◌∙◌, ap, subst, inl, inr, arith, append_assoc, length-append}
 use Rattle.std.proofs.lemmas.Bool.{true≢false}
 use Rattle.std.proofs.lemmas.List.{append-nil}
 use Rattle.std.proofs.lemmas.Option.{slice_get_past}
-use Rattle.std.specs.Prelude.{◌⊎◌, slice_get}
+use Rattle.std.specs.Prelude.{slice_get}
 use Rattle.stride_isa.specs.Listing.{Listing, op_at}
 use Rattle.sc_machine.specs.declared.end.End.{End}
 use Rattle.sc_machine.specs.declared.stop.Stop.{Stop}
 use Rattle.sc_machine.specs.declared.stop.Stop.TheVariants as stops
-use Rattle.sc_machine.specs.ThreadStep.{Thread, Row, start_thread, row, now_unless, settled, answered, stop_in, stop_of}
+use Rattle.sc_machine.specs.ThreadStep.{Thread, Row, row, now_unless, stop_in, stop_of}
 use Rattle.sc_machine.specs.Schedule.{stopped}
-use Rattle.sc_machine.proofs.Single.{local_steps-made-le}
-use Rattle.sc_machine.proofs.Standing.{HasFuel, settled-has_fuel, answered-has_fuel}
 use Rattle.interleavings.specs.declared.event.Event.{Event}
 use Rattle.interleavings.specs.declared.event.Event.TheVariants as events
 use Rattle.interleavings.specs.declared.event.LogEntry.{LogEntry}
 use Rattle.interleavings.specs.declared.event.LogEntry.TheVariants as entries
-use Rattle.interleavings.specs.Events.{log_of, word_given}
+use Rattle.interleavings.specs.Events.{log_of}
 use Rattle.interleavings.specs.Walking.{is_exit, IsMet, Walks}
 use Rattle.interleavings.specs.EventStep.{after_event}
 use Rattle.interleavings.specs.Following.{Makes, Over, met_of, on_met, event_before, place_after, turns_after, follow_from}
+use Rattle.interleavings.proofs.MachineLaws.{MachineLaws, IsAlive, after_event-alive, after_event-made}
 
 -- the turns after these events
 abbrev pub turns_by : List Event → (ℕ → ℕ) → ℕ → ℕ
@@ -36,18 +35,11 @@ pub turns_by-on : (es : List Event) (turns : ℕ → ℕ) (event : Event) → tu
 turns_by-on [] turns event = refl
 turns_by-on (e ∷ es) turns event = turns_by-on es (turns_after e turns) event
 
--- a thread has fuel left where it has not ended, but for one that has none from the start
-abbrev pub IsAlive : ℕ → Thread → Type 0
-IsAlive fuel s = HasFuel fuel s ⊎ (s ≡ start_thread)
-
--- after an event it has made one instruction more at least
-pub after_event-made : (p : Listing) (fuel t : ℕ) (event : Event) (s : Thread) → s.made < (after_event p fuel t event s).made
-unfolding settled
-after_event-made p fuel t event s = omega (arith, local_steps-made-le p fuel t (fuel - (s.made + 1)) (answered p fuel t (word_given event) s))
-
--- and has fuel left where it has not ended
-pub after_event-alive : (p : Listing) (fuel t : ℕ) (event : Event) (s : Thread) → IsAlive fuel (after_event p fuel t event s)
-after_event-alive p fuel t event s = inl (settled-has_fuel p fuel t _ (answered-has_fuel p fuel t (word_given event) s))
+-- a thread that goes from event to event stays alive
+pub walks-alive : MachineLaws → (p : Listing) (fuel t : ℕ) (es : List Event) (turns : ℕ → ℕ) (s last : Thread) → Walks p fuel t es turns s last → IsAlive fuel s → IsAlive fuel last
+walks-alive laws p fuel t [] turns s last walks alive = subst (λ (x : Thread). IsAlive fuel x) walks alive
+walks-alive laws p fuel t (event ∷ es) turns s last walks alive =
+    walks-alive laws p fuel t es (turns_after event turns) (after_event p fuel t event s) last walks.1 (after_event-alive laws p fuel t event s)
 
 -- a thread that has ended meets no event
 nothing_met : (ended : Option End) (r : Row) (turns : ℕ → ℕ) (event : Event) → (ended ≡ None → ⊥) → IsMet (stop_in (now_unless ended r)) turns event → ⊥
@@ -110,7 +102,7 @@ place_moved front (events.Update cell old new number) = sym (length-append front
 place_moved front (events.Enter monitor turn) = sym (length-append front (entries.Enter turn ∷ []))
 place_moved front (events.Exit monitor turn) = sym (ap length (append-nil front))
 
-module _ (p : Listing) (fuel t : ℕ) (log : List LogEntry) where
+module _ (laws : MachineLaws) (p : Listing) (fuel t : ℕ) (log : List LogEntry) where
   -- a thread that walks through the events after this prefix of its log is followed through them
   pub walks_followed : (n : ℕ) (front : List LogEntry) (es : List Event) (turns : ℕ → ℕ) (s last : Thread) → log ≡ front ++ log_of es → IsAlive fuel s → fuel < n + s.made → is_exit (stop_of p t last) ≡ false → Walks p fuel t es turns s last → follow_from p fuel t log n (length front) turns s ≡ Ok (record { events = es; thread = stopped last })
   unfolding follow_from
@@ -124,7 +116,7 @@ module _ (p : Listing) (fuel t : ℕ) (log : List LogEntry) where
       let met : met_of (stop_of p t s) (slice_get log (length front)) turns ≡ Makes event = ap (λ (l : List LogEntry). met_of (stop_of p t s) (slice_get l (length front)) turns) whole ∙ met_in_log (stop_of p t s) turns front event es walks.0 in
       let next = after_event p fuel t event s in
       let rest : follow_from p fuel t log n (length (front ++ log_of (event ∷ []))) (turns_after event turns) next ≡ Ok (record { events = es; thread = stopped last }) =
-      walks_followed n (front ++ log_of (event ∷ [])) es (turns_after event turns) next last (whole ∙ front_moved front event es) (after_event-alive p fuel t event s) (omega (arith, beyond, after_event-made p fuel t event s)) inside walks.1 in
+      walks_followed n (front ++ log_of (event ∷ [])) es (turns_after event turns) next last (whole ∙ front_moved front event es) (after_event-alive laws p fuel t event s) (omega (arith, beyond, after_event-made laws p fuel t event s)) inside walks.1 in
       ap (on_met (length front) s _) met
       ∙ ap (λ place. event_before event (follow_from p fuel t log n place (turns_after event turns) next)) (place_moved front event)
       ∙ ap (event_before event) rest

@@ -7,9 +7,9 @@ use Rattle.interleavings.specs.declared.event.Event.{Event}
 use Rattle.interleavings.specs.Events.{log_of}
 use Rattle.interleavings.specs.Following.{follow, no_turns}
 use Rattle.interleavings.specs.Laws.{IsWalk}
-use Rattle.interleavings.proofs.Walked.{start-alive}
+use Rattle.interleavings.proofs.MachineLaws.{MachineLaws, start-alive}
 use Rattle.interleavings.proofs.Walks.{walks_followed}
 
-pub walk-followed : (p : Listing) (fuel t : ℕ) (es : List Event) (last : Thread) → IsWalk p fuel t es last → follow p fuel t (log_of es) ≡ Ok (record { events = es; thread = stopped last })
+pub walk-followed : MachineLaws → (p : Listing) (fuel t : ℕ) (es : List Event) (last : Thread) → IsWalk p fuel t es last → follow p fuel t (log_of es) ≡ Ok (record { events = es; thread = stopped last })
 unfolding follow
-walk-followed p fuel t es last walk = walks_followed p fuel t (log_of es) (fuel + 1) [] es no_turns (settled p fuel t start_thread) last refl (start-alive p fuel t) (omega arith) walk.inside walk.walks
+walk-followed laws p fuel t es last walk = walks_followed laws p fuel t (log_of es) (fuel + 1) [] es no_turns (settled p fuel t start_thread) last refl (start-alive laws p fuel t) (omega arith) walk.inside walk.walks

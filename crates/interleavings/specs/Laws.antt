@@ -8,6 +8,7 @@ use Rattle.sc_machine.specs.Schedule.{stopped}
 use Rattle.interleavings.specs.declared.event.Event.{Event}
 use Rattle.interleavings.specs.declared.event.LogEntry.{LogEntry}
 use Rattle.interleavings.specs.declared.rest.Rest.{Rest}
+use Rattle.interleavings.specs.EventStep.{after_event}
 use Rattle.interleavings.specs.Events.{log_of}
 use Rattle.interleavings.specs.Following.{Followed, no_turns, follow}
 use Rattle.interleavings.specs.Walking.{is_exit, Walks}
@@ -35,6 +36,10 @@ DrivenGivesUp = (g : Setting) (order : List ℕ) → stranger (length g.program.
 -- once a run has settled, no thread of the program has anything left, so the bound on the steps of settling is never met
 abbrev pub NothingIsLeft : Type 0
 NothingIsLeft = (g : Setting) (order : List ℕ) → stranger (length g.program.threads) order ≡ None → (rest : Rest) (t : ℕ) → t < length g.program.threads → is_left rest g t (settle_all g (advance_all g order (begun g))) ≡ false
+
+-- after an event a thread has made more instructions than before
+abbrev pub EventMakesMore : Type 0
+EventMakesMore = (p : Listing) (fuel t : ℕ) (event : Event) (s : Thread) → s.made < (after_event p fuel t event s).made
 
 -- a thread that is run again by a log uses each entry of it, in order: the events that it makes have this very log
 abbrev pub FollowedUsesItsLog : Type 0

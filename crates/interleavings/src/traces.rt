@@ -10,7 +10,7 @@ use std::alloc::Global;
 use std::marker::Model;
 use std::sync::ledger::Ledger;
 use stride_base::{NoMemory, Steps};
-use stride_isa::Checked;
+use stride_isa::{Checked, each_cell_starts};
 
 /// A thread and the position of an event among that thread's events, both from 0.
 #[derive(Clone, Copy, Debug, PartialEq, Eq)]
@@ -53,6 +53,7 @@ fn empty_lists(alloc: Global, count: u32) -> Result<Vec<Vec<Event>>, NoMemory>
 fn starting_values(alloc: Global, program: &Checked) -> Result<Vec<u64>, NoMemory>
     ensures { IfOk result (λ starts. starts.items ≡ starts_of program.now.decls) }
 {
+    each_cell_starts();
     let mut starts = Vec::new(alloc);
     for cell in 0..program.cells() {
         starts.push(program.start_of(cell))?;
@@ -76,6 +77,7 @@ impl Traces {
         ensures { IfOk result (λ traces. traces ≡ none program.now) }
     {
         program.facts();
+        each_cell_starts();
         Ok(Traces {
             events: empty_lists(alloc, program.threads())?,
             starts: starting_values(alloc, program)?,

@@ -13,7 +13,7 @@ use Rattle.interleavings.specs.declared.event.Event.{Event}
 use Rattle.interleavings.specs.declared.event.Event.TheVariants as events
 use Rattle.interleavings.specs.declared.event.LogEntry.{LogEntry}
 use Rattle.interleavings.specs.EventStep.{after_event}
-use Rattle.interleavings.proofs.Walks.{after_event-made}
+use Rattle.interleavings.specs.Laws.{EventMakesMore}
 use Rattle.interleavings.specs.TraceLists.{TraceLists, events_of, with_event_of}
 use Rattle.interleavings.specs.Following.{Met, Makes, Over, Off, Followed, met_of, on_met, event_before, follow_from, place_after, turns_after}
 use Rattle.thread_rerun.specs.declared.follower.Follower.{Follower}
@@ -133,8 +133,8 @@ module _ (old half : Follower) (log : List LogEntry) (t : ℕ) (before sofar : T
       let is = going.is_thread in
       sym (ap (λ q. now q half.thread.number s) is.program ∙ ap (λ n. now p n s) is.which) ∙ stands
 
-  pub goes_on : (event : Event) → result ≡ told.Makes event → Suits stop event → (IsShared stop → s.made < half.thread.fuel) → t < length before.events → (new : Follower) → IsGone half new event → Going old new log t before (with_event_of sofar t event)
-  goes_on event is fits fuel_left inside new gone =
+  pub goes_on : EventMakesMore → (event : Event) → result ≡ told.Makes event → Suits stop event → (IsShared stop → s.made < half.thread.fuel) → t < length before.events → (new : Follower) → IsGone half new event → Going old new log t before (with_event_of sofar t event)
+  goes_on makes_more event is fits fuel_left inside new gone =
       let f = going.is_thread in
       let left : s.made < half.thread.fuel = fuel_left (suits_shared stop event fits) in
       let k = is_more (fuel - s.made) going.n going.enough in
@@ -145,7 +145,7 @@ module _ (old half : Follower) (log : List LogEntry) (t : ℕ) (before sofar : T
       ∙ ap (λ q. after_event q half.thread.fuel half.thread.number event s) f.program
       ∙ ap (λ limit. after_event p limit half.thread.number event s) f.fuel_is
       ∙ ap (λ u. after_event p fuel u event s) f.which in
-      let grows : s.made < new.thread.state.made = omega (arith, after_event-made p fuel t event s, ap (λ (x : Thread). x.made) same) in
+      let grows : s.made < new.thread.state.made = omega (arith, makes_more p fuel t event s, ap (λ (x : Thread). x.made) same) in
       let traces : with_event_of sofar t event ≡ with_events before t (going.so_far ++ event ∷ []) = ap (λ tr. with_event_of tr t event) going.traces ∙ with_one before t going.so_far event inside in
       record {
         is_thread = record {
@@ -169,10 +169,10 @@ module _ (old half : Follower) (log : List LogEntry) (t : ℕ) (before sofar : T
             ∙ ap (λ thread. events_before es (follow_from p fuel t log k.0 new.place (turns_in new) thread)) (sym same);
       }
 
-  pub falls : (event : Event) → Suits stop event → (IsShared stop → s.made < half.thread.fuel) → (new : Follower) → IsGone half new event → new.thread.fuel - new.thread.state.made < half.thread.fuel - s.made
-  falls event fits fuel_left new gone =
+  pub falls : EventMakesMore → (event : Event) → Suits stop event → (IsShared stop → s.made < half.thread.fuel) → (new : Follower) → IsGone half new event → new.thread.fuel - new.thread.state.made < half.thread.fuel - s.made
+  falls makes_more event fits fuel_left new gone =
       let left : s.made < half.thread.fuel = fuel_left (suits_shared stop event fits) in
-      omega (arith, left, after_event-made half.thread.program half.thread.fuel half.thread.number event s, ap (λ (x : Standing). x.state.made) gone.thread, ap (λ (x : Standing). x.fuel) gone.thread)
+      omega (arith, left, makes_more half.thread.program half.thread.fuel half.thread.number event s, ap (λ (x : Standing). x.state.made) gone.thread, ap (λ (x : Standing). x.fuel) gone.thread)
 
   pub off : result ≡ told.Off → following old log t ≡ Err half.place
   off is =

@@ -2,12 +2,12 @@
 use Rattle.std.proofs.Common.{◌≡◌, ℕ, suc, ◌+◌, ◌-◌, ◌<◌, ◌≤◌, List, [], ◌∷◌, ◌++◌, Result, Ok, Err, length, map, drop, replicate, refl, sym, ◌∙◌, ap, subst, arith, append_assoc, length-append}
 use Rattle.std.proofs.Math.Seq.{drop-cons, get_or-append_seam, set-append_seam}
 use Rattle.std.proofs.Math.ListN.{drop_of_length-le}
-use Rattle.interleavings.proofs.TraceLemmas.{length-starts}
 use Rattle.std.proofs.lemmas.List.{append-nil, length-map, length-replicate, map-append}
 use Rattle.std.specs.Prelude.{slice_set}
 use Rattle.std.specs.List.{slice_index_or}
 use Rattle.std.specs.Result.{IsErrAnd}
 use Rattle.stride_isa.specs.Listing.{Listing}
+use Rattle.stride_isa.specs.Laws.{EachCellStarts}
 use Rattle.sc_machine.specs.ThreadStep.{end_of}
 use Rattle.interleavings.specs.declared.event.Event.{Event}
 use Rattle.interleavings.specs.declared.event.LogEntry.{LogEntry}
@@ -75,9 +75,9 @@ module _ (p : Listing) (fuel : ℕ) (logs : List (List LogEntry)) where
     traces_now : old.traces ≡ traces_at p at.done (suc left)
     traces_now = at.traces ∙ ap (traces_at p at.done) one_less
 
-    pub room : HasRoomFor p t old.traces
-    room = subst (λ (tr : TraceLists). HasRoomFor p t tr) (sym traces_now) (record {
-      of_program = record { cells = length-starts p.decls; monitors = refl };
+    pub room : EachCellStarts → HasRoomFor p t old.traces
+    room each_starts = subst (λ (tr : TraceLists). HasRoomFor p t tr) (sym traces_now) (record {
+      of_program = record { cells = each_starts p.decls; monitors = refl };
       inside = omega (arith, inside, at.count, length-map at.done events_in, length-append (map events_in at.done) (replicate (suc left) []), length-replicate {A = List Event} (suc left) []);
       none_yet = ap (λ i. slice_index_or (map events_in at.done ++ [] ∷ replicate left []) i []) (sym (length-map at.done events_in ∙ at.count)) ∙ get_or-append_seam (map events_in at.done) [] (replicate left []) [];
     })

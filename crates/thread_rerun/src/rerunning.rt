@@ -10,7 +10,7 @@ use crate::thread_following::follow_log;
 use interleavings::{LogEntry, Traces};
 use std::alloc::Global;
 use stride_base::List;
-use stride_isa::Checked;
+use stride_isa::{Checked, each_cell_starts};
 use stride_isa::limits::FUEL_LIMIT;
 
 // The log of a thread, if it is there.
@@ -58,6 +58,7 @@ pub fn rerun(
     requires limit { fuel ≤ FUEL_LIMIT }
     ensures { IsAnswer result (again program.now fuel (map (λ log. log.items) logs.now.items)) }
 {
+    each_cell_starts();
     let mut rerun = Rerun {
         traces: Traces::new(alloc, program)?,
         outputs: List::new(alloc),

@@ -6,7 +6,7 @@ ghost use Rattle.thread_rerun.specs.Shows.{IsOfProgram, Comes};
 use crate::follower::Follower;
 use crate::meeting::{Met, meet};
 use crate::rerun_error::RerunError;
-use interleavings::{LogEntry, Traces};
+use interleavings::{LogEntry, Traces, event_makes_more};
 use stride_isa::limits::FUEL_LIMIT;
 
 fn entry_at(log: &[LogEntry], place: usize) -> Option<LogEntry>
@@ -30,6 +30,7 @@ pub(crate) fn follow_log(
     requires few { length (events_of traces.old thread) ≤ follower.old.thread.state.made }
     ensures { Comes follower.old follower.new log.now thread traces.old traces.new result }
 {
+    event_makes_more();
     loop {
         let stop = follower.thread.stop();
         match meet(stop, entry_at(log, follower.place), &follower.turns) {

@@ -18,7 +18,7 @@ returns-in_default c =
     no_log c.args.program.now c.args.fuel (map items c.args.logs.now.items) c.loop-thread.thread c.loop-thread.rerun c.loop-thread.invariant (omega (arith, c.loop-thread-test.true, c.threads-threads.ensures.count)) (omega (arith, c.in_default.ensures.none, length-map c.args.logs.now.items items))
 
 pub rerun_thread-requires-clause-room : goal.rerun_thread-requires-clause-room
-rerun_thread-requires-clause-room c = room c.args.program.now c.args.fuel (map items c.args.logs.now.items) c.loop-thread.thread c.loop-thread.rerun c.loop-thread.invariant (omega (arith, c.loop-thread-test.true, c.threads-threads.ensures.count))
+rerun_thread-requires-clause-room c = room c.args.program.now c.args.fuel (map items c.args.logs.now.items) c.loop-thread.thread c.loop-thread.rerun c.loop-thread.invariant (omega (arith, c.loop-thread-test.true, c.threads-threads.ensures.count)) c.each_cell_starts.ensures
 
 pub returns-in_err-rerun_thread : goal.returns-in_err-rerun_thread
 returns-in_err-rerun_thread c =
