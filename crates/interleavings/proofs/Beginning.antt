@@ -4,6 +4,7 @@ use Rattle.std.proofs.lemmas.Bool.{true≢false, cases_eq}
 use Rattle.std.proofs.lemmas.List.FromFn.{get_or-map-range_with_len, length-map-range_with_len}
 use Rattle.std.specs.List.{range_with_len}
 use Rattle.std.specs.Prelude.{IsSome}
+use Rattle.stride_isa.specs.Limits.{monitor_limit}
 use Rattle.stride_isa.specs.Listing.{starts_of}
 use Rattle.sc_machine.specs.ThreadStep.{Thread, start_thread, holds, settled, stop_of}
 use Rattle.interleavings.specs.declared.acts.Acts.{Acts}
@@ -82,7 +83,7 @@ named-in_place : (g : Setting) (t : ℕ) (s : Thread) (acts : Acts) → s.held �
 named-in_place g t s acts flags h = record {
   named = h.named;
   fits = subst (λ (x : Phase). IsPhaseAt x (stop_of g.program t s)) (sym h.idle) tt;
-  turns = λ monitor up. absurd (true≢false (sym up ∙ ap (λ x. holds x monitor) flags ∙ none_held 64 monitor));
+  turns = λ monitor up. absurd (true≢false (sym up ∙ ap (λ x. holds x monitor) flags ∙ none_held monitor_limit monitor));
   patient = patient_at g.patience (stop_of g.program t s) acts.looks (ap (λ x. gives_up g.patience x) h.calm);
 }
 

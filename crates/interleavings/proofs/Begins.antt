@@ -2,6 +2,7 @@
 use Rattle.std.proofs.Common.{◌≡◌, ℕ, ◌+◌, ◌<◌, ◌≤◌, ◌∙◌, if◌then◌else◌, nat_lt, List, [], ◌∷◌, ◌++◌, length, map, slice_index, get_or, refl, sym, ap, subst, arith}
 use Rattle.std.specs.List.{range_with_len}
 use Rattle.std.proofs.lemmas.List.FromFn.{get_or-map-range_with_len, length-map-range_with_len, map-range_with_len_more}
+use Rattle.stride_isa.specs.Limits.{thread_limit}
 use Rattle.stride_isa.specs.Listing.{Listing, starts_of}
 use Rattle.sc_machine.specs.StandingThread.{IsThreadOf, Standing, started_at}
 use Rattle.sc_machine.specs.ThreadStep.{start_thread, settled}
@@ -78,14 +79,14 @@ started_states p fuel (t ∷ ns) = ap (λ rest. settled p fuel t start_thread �
 abbrev setting : Listing → ℕ → ℕ → Setting
 setting p fuel patience = record { program = p; fuel = fuel; patience = patience }
 
-pub start_draws : (p : Listing) (core : Core) (threads : ℕ) → IsStartCore p core → threads ≡ length p.threads → threads ≤ 16 → CanDraw core threads
+pub start_draws : (p : Listing) (core : Core) (threads : ℕ) → IsStartCore p core → threads ≡ length p.threads → threads ≤ thread_limit → CanDraw core threads
 unfolding after
 start_draws p core threads start count few = record { whole = start.whole; people = start.people ∙ sym count; few = few; starts = starts_of p.decls; shows = start.shows }
 
 length_started : (sim : Simulation) → sim.threads.items ≡ map (started_at sim.program.now sim.fuel) (range_with_len 0 (length sim.program.now.threads)) → length sim.threads.items ≡ length sim.program.now.threads
 length_started sim started = ap length started ∙ length-map-range_with_len (started_at sim.program.now sim.fuel) 0 (length sim.program.now.threads)
 
-pub simulation_begun : (sim : Simulation) (core : Core) (threads : ℕ) → IsStartCore sim.program.now core → threads ≡ length sim.program.now.threads → threads ≤ 16 → HasSameShape core sim.core → ((starts : List ℕ) → ShowsState core (after starts []) → ShowsState sim.core (drawn_by starts threads)) → sim.threads.items ≡ map (started_at sim.program.now sim.fuel) (range_with_len 0 (length sim.program.now.threads)) → Shows (setting sim.program.now sim.fuel sim.patience) sim (begun (setting sim.program.now sim.fuel sim.patience))
+pub simulation_begun : (sim : Simulation) (core : Core) (threads : ℕ) → IsStartCore sim.program.now core → threads ≡ length sim.program.now.threads → threads ≤ thread_limit → HasSameShape core sim.core → ((starts : List ℕ) → ShowsState core (after starts []) → ShowsState sim.core (drawn_by starts threads)) → sim.threads.items ≡ map (started_at sim.program.now sim.fuel) (range_with_len 0 (length sim.program.now.threads)) → Shows (setting sim.program.now sim.fuel sim.patience) sim (begun (setting sim.program.now sim.fuel sim.patience))
 unfolding begun after
 simulation_begun sim core threads start count few shape shows started = record {
   program = refl;

@@ -4,6 +4,7 @@ use Rattle.std.specs.List.{range_with_len}
 use Rattle.std.proofs.lemmas.Grind.{get_or_default_zero}
 use Rattle.std.proofs.lemmas.List.{map-append}
 use Rattle.stride_base.specs.Listed.{Listed}
+use Rattle.stride_isa.specs.Limits.{thread_limit}
 use Rattle.stride_isa.specs.Listing.{cell_count}
 use Rattle.sc_machine.specs.StandingThread.{Standing}
 use Rattle.sc_machine.specs.ThreadStep.{Thread, end_of}
@@ -19,7 +20,7 @@ use Rattle.interleavings.specs.SimulationShows.{CanGo, Makes, Shows}
 use Rattle.interleavings.specs.Events.{log_of}
 use Rattle.interleavings.specs.Layout.{index_of}
 use Rattle.interleavings.specs.Recording.{Recording, Setting, acts_of, state_of}
-use Rattle.stride_isa.specs.declared.limits.TheConstants.{FUEL_LIMIT}
+use Rattle.stride_isa.specs.Limits.{fuel_limit}
 use Rattle.stride_base.specs.declared.limits.TheConstants.{ORDER_LIMIT}
 use Rattle.interleavings.specs.Driving.{Drive, advance_all, begun, driven, recording_of, settle_all, stranger, whole_run}
 use Rattle.interleavings.proofs.Begins.{draws_length}
@@ -82,14 +83,14 @@ recorded_parts g sim d r shows logs outputs ends values =
 
 -- what the whole of a recording's code came to
 module _ (g : Setting) (order : List ℕ) (start followed settled : Simulation) (begins : Shows g start (begun g)) where
-  begun_steps : length (begun g).steps ≤ 16
+  begun_steps : length (begun g).steps ≤ thread_limit
   unfolding begun
   begun_steps = omega (arith, draws_length (thread_numbers g.program) [], range_length 0 (length g.program.threads), begins.few)
 
   pub follow_may : length order ≤ ORDER_LIMIT → CanGo start (length order)
   follow_may short = record { setting = g; drive = begun g; reached = reached-begun g; shows = begins; few = omega (arith, begun_steps) }
 
-  pub settle_may : length order ≤ ORDER_LIMIT → g.fuel ≤ FUEL_LIMIT → stranger (length g.program.threads) order ≡ None → Makes (λ g. advance_all g order) start followed → CanGo followed (48 * (followed.fuel + 3))
+  pub settle_may : length order ≤ ORDER_LIMIT → g.fuel ≤ fuel_limit → stranger (length g.program.threads) order ≡ None → Makes (λ g. advance_all g order) start followed → CanGo followed (48 * (followed.fuel + 3))
   settle_may short small known follows =
       let shown : Shows g followed (advance_all g order (begun g)) = follows g (begun g) begins in
       record { setting = g; drive = advance_all g order (begun g); reached = record { order = order; known = known; same = refl }; shows = shown; few = omega (arith, begun_steps, advance_all_steps g order (begun g), shown.fuel) }

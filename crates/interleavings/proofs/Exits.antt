@@ -2,6 +2,7 @@
 use Rattle.std.proofs.Common.{◌≡◌, ℕ, ◌-◌, ◌<◌, true, List, length, refl, sym, ◌∙◌, ap, subst, inl, inr, arith, Option, Some, None}
 use Rattle.std.proofs.lemmas.Bool.{true≢false}
 use Rattle.std.proofs.lemmas.List.{get_or-set_same}
+use Rattle.stride_isa.specs.Limits.{monitor_limit}
 use Rattle.stride_isa.specs.Listing.{op_at}
 use Rattle.sc_machine.specs.declared.end.End.{End}
 use Rattle.sc_machine.specs.declared.stop.Stop.{Stop}
@@ -33,7 +34,7 @@ exit_has_fuel : (g : Setting) (t : ℕ) (s : Thread) (monitor : ℕ) → stop_of
 exit_has_fuel g t s monitor e (inl left) = left (not_ended s.ended (row g.program (op_at g.program t s.pc) s.pc s.stack s.locals s.held) monitor e)
 exit_has_fuel g t s monitor e (inr start) =
     let holding : holds s.held monitor ≡ true = (answered_flags (stops.Exit monitor) g t s tt e).1 in
-    absurd (true≢false (sym holding ∙ ap (λ (x : Thread). holds x.held monitor) start ∙ none_held 64 monitor))
+    absurd (true≢false (sym holding ∙ ap (λ (x : Thread). holds x.held monitor) start ∙ none_held monitor_limit monitor))
 
 -- it came there by its events, and did not give up
 alive_at_exit : MachineLaws → (g : Setting) (t : ℕ) (s : Thread) (monitor : ℕ) (done : List Event) (held : List HeldTurn) → stop_of g.program t s ≡ stops.Exit monitor → HasWalked g t s done held → IsAlive g.fuel s

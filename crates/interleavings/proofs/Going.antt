@@ -3,6 +3,7 @@ use Rattle.std.proofs.Common.{◌≡◌, ℕ, zero, suc, ◌+◌, ◌-◌, ◌*�
 use Rattle.std.specs.List.{range_with_len}
 use Rattle.std.proofs.lemmas.List.{get_or-take, take_more, length-take}
 use Rattle.std.proofs.Math.Nat.{mul-le-mul_right}
+use Rattle.stride_isa.specs.Limits.{thread_limit}
 use Rattle.stride_isa.specs.Listing.{Listing}
 use Rattle.sc_machine.specs.ThreadStep.{stop_of}
 use Rattle.sc_machine.specs.Schedule.{thread_numbers}
@@ -127,14 +128,14 @@ by_all_steps rest g (t ∷ ts) d =
 
 -- the loop over the threads
 module _ (start sim : Simulation) (rest : Rest) (i : ℕ) (makes : Makes (λ g. finished_by_all rest g (range_with_len 0 i)) start sim) where
-  pub each_goes : CanGo start (16 * (start.fuel + 3)) → i < length start.program.now.threads → CanGo sim (sim.fuel + 3)
+  pub each_goes : CanGo start (thread_limit * (start.fuel + 3)) → i < length start.program.now.threads → CanGo sim (sim.fuel + 3)
   each_goes goes inside =
       let g : Setting = goes.setting in
       let shown : Shows g sim (finished_by_all rest g (range_with_len 0 i) goes.drive) = makes g goes.drive goes.shows in
       let most : ℕ = g.fuel + 3 in
       let there : i < length g.program.threads = omega (arith, inside, ap (λ (p : Listing). length p.threads) goes.shows.program) in
-      let few : suc i ≤ 16 = omega (arith, there, goes.shows.few) in
-      let all : suc i * most ≤ 16 * most = mul-le-mul_right most few in
+      let few : suc i ≤ thread_limit = omega (arith, there, goes.shows.few) in
+      let all : suc i * most ≤ thread_limit * most = mul-le-mul_right most few in
       let made : length (finished_by_all rest g (range_with_len 0 i) goes.drive).steps ≤ length goes.drive.steps + i * most =
       subst (λ (n : ℕ). length (finished_by_all rest g (range_with_len 0 i) goes.drive).steps ≤ length goes.drive.steps + n * most) (range_length 0 i) (by_all_steps rest g (range_with_len 0 i) goes.drive) in
       record {
@@ -155,18 +156,18 @@ module _ (start one two three : Simulation) where
   abbrev all : Rest → Setting → Drive → Drive
   all rest g d = finished_by_all rest g (thread_numbers g.program) d
 
-  all_steps : (rest : Rest) (g : Setting) (sim : Simulation) (d : Drive) → Shows g sim d → length (all rest g d).steps ≤ length d.steps + 16 * (g.fuel + 3)
+  all_steps : (rest : Rest) (g : Setting) (sim : Simulation) (d : Drive) → Shows g sim d → length (all rest g d).steps ≤ length d.steps + thread_limit * (g.fuel + 3)
   all_steps rest g sim d shows =
       let most : ℕ = g.fuel + 3 in
-      let bound : length g.program.threads * most ≤ 16 * most = mul-le-mul_right most shows.few in
+      let bound : length g.program.threads * most ≤ thread_limit * most = mul-le-mul_right most shows.few in
       let made : length (all rest g d).steps ≤ length d.steps + length g.program.threads * most =
       subst (λ (n : ℕ). length (all rest g d).steps ≤ length d.steps + n * most) (range_length 0 (length g.program.threads)) (by_all_steps rest g (thread_numbers g.program) d) in
       omega (arith, made, bound)
 
-  pub claims_go : CanGo start (48 * (start.fuel + 3)) → CanGo start (16 * (start.fuel + 3))
+  pub claims_go : CanGo start (3 * thread_limit * (start.fuel + 3)) → CanGo start (thread_limit * (start.fuel + 3))
   claims_go goes = record { setting = goes.setting; drive = goes.drive; reached = goes.reached; shows = goes.shows; few = omega (arith, goes.few) }
 
-  pub reads_go : CanGo start (48 * (start.fuel + 3)) → Makes (all rests.Write) start one → CanGo one (16 * (one.fuel + 3))
+  pub reads_go : CanGo start (3 * thread_limit * (start.fuel + 3)) → Makes (all rests.Write) start one → CanGo one (thread_limit * (one.fuel + 3))
   reads_go goes writes =
       let g : Setting = goes.setting in
       let shown : Shows g one (all rests.Write g goes.drive) = writes g goes.drive goes.shows in
@@ -178,7 +179,7 @@ module _ (start one two three : Simulation) where
         few = omega (arith, all_steps rests.Write g start goes.drive goes.shows, goes.few, shown.fuel, goes.shows.fuel);
       }
 
-  pub exits_go : CanGo start (48 * (start.fuel + 3)) → Makes (all rests.Write) start one → Makes (all rests.Read) one two → CanGo two (16 * (two.fuel + 3))
+  pub exits_go : CanGo start (3 * thread_limit * (start.fuel + 3)) → Makes (all rests.Write) start one → Makes (all rests.Read) one two → CanGo two (thread_limit * (two.fuel + 3))
   exits_go goes writes reads =
       let g : Setting = goes.setting in
       let shown : Shows g one (all rests.Write g goes.drive) = writes g goes.drive goes.shows in

@@ -1,6 +1,7 @@
 -- The simulation of `drive` beside the run that it shows. Only private clauses cite this module.
 use Rattle.std.specs.Prelude.{◌≡◌, ℕ, ◌+◌, ◌<◌, ◌≤◌, List, [], length, map, Option, Some, None}
 use Rattle.std.specs.List.{slice_index_or}
+use Rattle.stride_isa.specs.Limits.{thread_limit}
 use Rattle.stride_isa.specs.Listing.{Listing, cell_count, starts_of}
 use Rattle.sc_machine.specs.declared.stop.Stop.{Stop}
 use Rattle.sc_machine.specs.StandingThread.{IsThreadOf, Standing}
@@ -30,7 +31,7 @@ pub record Shows (g : Setting) (sim : Simulation) (d : Drive) : Type 0 where
   pub program : sim.program.now ≡ g.program
   pub fuel : sim.fuel ≡ g.fuel
   pub patience : sim.patience ≡ g.patience
-  pub few : length g.program.threads ≤ 16
+  pub few : length g.program.threads ≤ thread_limit
   pub count : length sim.threads.items ≡ length g.program.threads
   pub each : (t : ℕ) (thread : Standing) → t < length sim.threads.items → IsThreadOf g.program g.fuel t (slice_index_or sim.threads.items t thread)
   pub threads : d.threads ≡ map (λ (s : Standing). s.state) sim.threads.items
@@ -62,7 +63,7 @@ Makes f old new = (g : Setting) (d : Drive) → Shows g old d → Shows g new (f
 pub record CanDraw (core : Core) (threads : ℕ) : Type 0 where
   pub whole : HasWholeRow core
   pub people : length core.people.items ≡ threads
-  pub few : threads ≤ 16
+  pub few : threads ≤ thread_limit
   pub starts : List ℕ
   pub shows : ShowsState core (after starts [])
 

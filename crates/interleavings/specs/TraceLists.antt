@@ -3,7 +3,7 @@ use Rattle.std.specs.Prelude.{ℕ, ◌<◌, ◌≤◌, List, [], ◌∷◌, ◌+
 use Rattle.std.specs.List.{AllByRecursion, slice_index_or}
 use Rattle.std.specs.Prelude.{slice_set}
 use Rattle.stride_isa.specs.Listing.{Listing, starts_of}
-use Rattle.stride_isa.specs.declared.limits.TheConstants.{FUEL_LIMIT}
+use Rattle.stride_isa.specs.Limits.{cell_limit, fuel_limit, monitor_limit, thread_limit}
 use Rattle.interleavings.specs.declared.event.Event.{Event}
 use Rattle.interleavings.specs.declared.event.Event.TheVariants.{Read, Write, Update, Enter, Exit}
 
@@ -36,8 +36,8 @@ with_event_of traces thread event = record traces { events = slice_set traces.ev
 -- the traces are within the limits of a program and of its threads' fuel, and each event is of a cell or a monitor that is
 -- there
 pub record IsTraces (traces : TraceLists) : Type 0 where
-  pub threads : length traces.events ≤ 16
-  pub cells : length traces.starts ≤ 256
-  pub monitors : traces.monitors ≤ 64
-  pub counts : AllByRecursion (λ events. length events ≤ FUEL_LIMIT) traces.events
+  pub threads : length traces.events ≤ thread_limit
+  pub cells : length traces.starts ≤ cell_limit
+  pub monitors : traces.monitors ≤ monitor_limit
+  pub counts : AllByRecursion (λ events. length events ≤ fuel_limit) traces.events
   pub ranges : AllByRecursion (λ events. AllByRecursion (IsInRange traces) events) traces.events

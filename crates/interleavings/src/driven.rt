@@ -13,7 +13,7 @@ use crate::results::{end_all, last_values, logs_of};
 use crate::simulation::Simulation;
 use crate::simulation_start::start_simulation;
 use sc_machine::End;
-use stride_isa::limits::FUEL_LIMIT;
+use stride_isa::limits::{FUEL_LIMIT, THREAD_LIMIT};
 use std::alloc::Global;
 use stride_base::limits::ORDER_LIMIT;
 use stride_base::{List, NoMemory};
@@ -93,7 +93,7 @@ pub fn drive(
     requires patience_limit { patience ≤ PATIENCE_LIMIT }
     requires short { length order.now ≤ ORDER_LIMIT }
     ensures recording { IfOk result (λ d. recording_seen d ≡ driven (record { program = program.now; fuel = fuel; patience = patience }) order.now) }
-    ensures few { IfOk result (λ d. length d.logs.items ≤ 16) }
+    ensures few { IfOk result (λ d. length d.logs.items ≤ THREAD_LIMIT) }
     ensures known { IfOk result (λ _. stranger (length program.now.threads) order.now ≡ None) }
     ensures refused { IfErr result (IsStranger (length program.now.threads) order.now) }
 {

@@ -6,6 +6,7 @@ use crate::driven_thread::go_on;
 use crate::rest::Rest;
 use crate::step_choice::{has_claimed, is_exit, is_loaded, next_step};
 use sc_machine::StandingThread;
+use stride_isa::limits::THREAD_LIMIT;
 use stride_base::NoMemory;
 use stride_isa::Checked;
 
@@ -89,7 +90,7 @@ impl<'p> Simulation<'p> {
 
     // Lets each thread finish this, in order of number.
     fn finish_all(&mut self, rest: Rest) -> Result<(), NoMemory>
-        requires { CanGo self.old (16 * (self.old.fuel + 3)) }
+        requires { CanGo self.old (THREAD_LIMIT * (self.old.fuel + 3)) }
         ensures { OnOk result (Makes (λ g. finished_by_all rest g (thread_numbers g.program)) self.old self.new) }
     {
         for thread in 0..self.program.threads() {
@@ -100,7 +101,7 @@ impl<'p> Simulation<'p> {
 
     /// Lets the threads finish after an order: what was claimed, then what was read, then exits.
     pub fn settle(&mut self) -> Result<(), NoMemory>
-        requires { CanGo self.old (48 * (self.old.fuel + 3)) }
+        requires { CanGo self.old (3 * THREAD_LIMIT * (self.old.fuel + 3)) }
         ensures { OnOk result (Makes settle_all self.old self.new) }
     {
         self.finish_all(Rest::Write)?;

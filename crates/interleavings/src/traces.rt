@@ -5,7 +5,7 @@ ghost use Rattle.stride_isa.specs.Listing.{starts_of};
 ghost use Rattle.interleavings.specs.TraceLists.{IsInRange, events_of, no_events as none, with_event_of};
 
 use crate::event::Event;
-use stride_isa::limits::FUEL_LIMIT;
+use stride_isa::limits::{CELL_LIMIT, FUEL_LIMIT, MONITOR_LIMIT, THREAD_LIMIT};
 use std::alloc::Global;
 use std::marker::Model;
 use std::sync::ledger::Ledger;
@@ -99,7 +99,7 @@ impl Traces {
     /// How many threads there are.
     pub fn threads(&self) -> u32
         ensures count { result ≡ length self.now.events }
-        ensures small { result ≤ 16 }
+        ensures small { result ≤ THREAD_LIMIT }
     {
         self.events.len() as u32
     }
@@ -107,7 +107,7 @@ impl Traces {
     /// How many cells there are.
     pub fn cells(&self) -> u32
         ensures count { result ≡ length self.now.starts }
-        ensures small { result ≤ 256 }
+        ensures small { result ≤ CELL_LIMIT }
     {
         self.starts.len() as u32
     }
@@ -115,7 +115,7 @@ impl Traces {
     /// How many monitors there are.
     pub fn monitors(&self) -> u32
         ensures count { result ≡ self.now.monitors }
-        ensures small { result ≤ 64 }
+        ensures small { result ≤ MONITOR_LIMIT }
     {
         self.monitors
     }

@@ -4,6 +4,7 @@ use Rattle.std.specs.List.{AllByRecursion, flat_map}
 use Rattle.std.proofs.lemmas.Bool.{cases_lt, ltb-true, ltb-false, lt-ltb, le-ltb, eqb-true, eqb-false, eq-eqb, ne_eqb}
 use Rattle.std.proofs.lemmas.List.{append-nil}
 use Rattle.std.proofs.lemmas.List.Concat.{flat_map-cons}
+use Rattle.stride_isa.specs.Limits.{fuel_limit, thread_limit}
 use Rattle.interleavings.specs.declared.event.LogEntry.{LogEntry}
 use Rattle.interleavings.specs.declared.event.LogEntry.TheVariants.{Read, Write, Update, Enter}
 use Rattle.log_format.specs.declared.entries.Kind.{Kind}
@@ -673,7 +674,7 @@ abbrev AfterThreads : Version → ℕ → List ℕ → ℕ → Bundled → List 
 AfterThreads version fuel text threads = Joined (IsLogs version fuel threads) (λ logs. IsDone (record { fuel = fuel; text = text; logs = logs }))
 
 abbrev AfterText : Version → ℕ → List ℕ → Bundled → List ℕ → Type 0
-AfterText version fuel text = Joined (IsUpTo version Bits16 16) (AfterThreads version fuel text)
+AfterText version fuel text = Joined (IsUpTo version Bits16 thread_limit) (AfterThreads version fuel text)
 
 abbrev AfterFuel : Version → ℕ → Bundled → List ℕ → Type 0
 AfterFuel version fuel = Joined (IsText version) (AfterText version fuel)
@@ -682,7 +683,7 @@ abbrev after_threads : Version → ℕ → List ℕ → ℕ × List ℕ → Resu
 after_threads version fuel text threads = logs_at version fuel threads.0 threads.1 >>= λ logs. Ok (record { fuel = fuel; text = text; logs = logs.0 }, logs.1)
 
 abbrev after_text : Version → ℕ → List ℕ × List ℕ → Result (Bundled × List ℕ) Fault
-after_text version fuel text = number_up_to version Bits16 16 text.1 >>= after_threads version fuel text.0
+after_text version fuel text = number_up_to version Bits16 thread_limit text.1 >>= after_threads version fuel text.0
 
 abbrev after_fuel : Version → ℕ × List ℕ → Result (Bundled × List ℕ) Fault
 after_fuel version fuel = text_at version fuel.1 >>= after_text version fuel.0
@@ -692,7 +693,7 @@ each_count : (version : Version) (fuel : ℕ) (logs : List (List LogEntry)) → 
 each_count version fuel [] fit = (tt, tt)
 each_count version fuel (log ∷ logs) fit = (let others = each_count version fuel logs fit.1 in ((fit.0.0, others.0), (fit.0.2, others.1)))
 
-each_log : (version : Version) (fuel : ℕ) (logs : List (List LogEntry)) → fuel ≤ 1000000 → AllByRecursion (λ log. length log ≤ fuel) logs → AllByRecursion (AllByRecursion (IsEntryOf version)) logs → AllByRecursion (LogFits version fuel) logs
+each_log : (version : Version) (fuel : ℕ) (logs : List (List LogEntry)) → fuel ≤ fuel_limit → AllByRecursion (λ log. length log ≤ fuel) logs → AllByRecursion (AllByRecursion (IsEntryOf version)) logs → AllByRecursion (LogFits version fuel) logs
 each_log version fuel [] small counts entries = tt
 each_log version fuel (log ∷ logs) small counts entries = ((counts.0, omega (arith, counts.0), entries.0), each_log version fuel logs small counts.1 entries.1)
 
@@ -749,7 +750,7 @@ threads_read version fuel text threads =
     (λ logs. reads_done (record { fuel = fuel; text = text; logs = logs }))
 
 texts_read : (version : Version) (fuel : ℕ) (text : List ℕ) → Reads (λ bytes. after_text version fuel (text, bytes)) (AfterText version fuel text)
-texts_read version fuel text = reads_then (number_up_to version Bits16 16) (after_threads version fuel text) (IsUpTo version Bits16 16) (AfterThreads version fuel text) (up_to_reads version Bits16 16) (threads_read version fuel text)
+texts_read version fuel text = reads_then (number_up_to version Bits16 thread_limit) (after_threads version fuel text) (IsUpTo version Bits16 thread_limit) (AfterThreads version fuel text) (up_to_reads version Bits16 thread_limit) (threads_read version fuel text)
 
 fuels_read : (version : Version) (fuel : ℕ) → Reads (λ bytes. after_fuel version (fuel, bytes)) (AfterFuel version fuel)
 fuels_read version fuel = reads_then (text_at version) (after_text version fuel) (IsText version) (AfterText version fuel) (text_reads version) (texts_read version fuel)
@@ -773,7 +774,7 @@ after_threads_some version fuel text threads =
 
 after_text_some : (version : Version) (fuel : ℕ) (text : List ℕ) → IsSome (AfterText version fuel text)
 after_text_some version fuel text =
-    let threads = a_limited version Bits16 16 in
+    let threads = a_limited version Bits16 thread_limit in
     let next = after_threads_some version fuel text threads.value in
     record { value = next.value; text = threads.text ++ next.text; is = record { value = threads.value; one = threads.text; two = next.text; first = threads.is; second = next.is; whole = refl } }
 
@@ -802,7 +803,7 @@ body_begins version =
     begins_as (body_at version) (Joined (IsFuel version) (AfterFuel version)) (IsBody version) (to_body version) (IsUnfinished version)
     (begins_then (fuel_at version) (after_fuel version) (IsFuel version) (AfterFuel version) (fuel_reads version) (IsUnfinished version) (fuel_begins version)
     (λ fuel text is. begins_then (text_at version) (after_text version fuel) (IsText version) (AfterText version fuel) (text_reads version) (IsUnfinished version) (text_begins version)
-    (λ text spelled is. begins_then (number_up_to version Bits16 16) (after_threads version fuel text) (IsUpTo version Bits16 16) (AfterThreads version fuel text) (up_to_reads version Bits16 16) (IsUnfinished version) (up_to_begins version Bits16 16)
+    (λ text spelled is. begins_then (number_up_to version Bits16 thread_limit) (after_threads version fuel text) (IsUpTo version Bits16 thread_limit) (AfterThreads version fuel text) (up_to_reads version Bits16 thread_limit) (IsUnfinished version) (up_to_begins version Bits16 thread_limit)
     (λ threads spelled is. begins_then (logs_at version fuel threads) (λ logs. Ok (record { fuel = fuel; text = text; logs = logs.0 }, logs.1)) (IsLogs version fuel threads) (λ logs. IsDone (record { fuel = fuel; text = text; logs = logs })) (logs_read version fuel threads) (IsUnfinished version) (logs_begin version fuel threads)
     (λ logs spelled is. begins_done (record { fuel = fuel; text = text; logs = logs }) (IsUnfinished version))
     (λ logs spelled is. record { value = record { fuel = fuel; text = text; logs = logs }; text = []; is = (refl, refl) }))

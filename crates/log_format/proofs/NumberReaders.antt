@@ -3,6 +3,7 @@ use Rattle.std.proofs.Common.{◌≡◌, ℕ, ◌-◌, ◌≤◌, ◌<◌, Bool,
 use Rattle.std.proofs.lemmas.Bool.{ltb-false, le-ltb, eqb-true, eqb-false, ne_eqb}
 use Rattle.std.proofs.lemmas.Bool.Decides.{nat_tests}
 use Rattle.std.proofs.lemmas.List.{append-nil, length-replicate}
+use Rattle.stride_isa.specs.Limits.{fuel_limit}
 use Rattle.log_format.specs.declared.fault.Fault.{Fault}
 use Rattle.log_format.specs.declared.format_error.FormatKind.TheVariants.{BadMagic, BadCount}
 use Rattle.log_format.specs.declared.version.Size.{Size}
@@ -128,19 +129,19 @@ up_to_begins version size limit =
 -- ---- the bound on the instructions
 
 abbrev pub IsFuel : Version → ℕ → List ℕ → Type 0
-IsFuel version n text = (1 ≤ n) × (n ≤ 1000000) × (text ≡ number_bytes version Bits32 n)
+IsFuel version n text = (1 ≤ n) × (n ≤ fuel_limit) × (text ≡ number_bytes version Bits32 n)
 
 abbrev some_fuel : ℕ → List ℕ → List ℕ → Result (ℕ × List ℕ) Fault
 some_fuel n bytes rest = refusing BadCount (eqb n 0) n bytes rest
 
-to_fuel : (version : Version) (n : ℕ) (text : List ℕ) → Judged (IsUpTo version Bits32 1000000) some_fuel n text → IsFuel version n text
+to_fuel : (version : Version) (n : ℕ) (text : List ℕ) → Judged (IsUpTo version Bits32 fuel_limit) some_fuel n text → IsFuel version n text
 to_fuel version n text j =
     let g = guard_ok (eqb j.value 0) (fault BadCount []) (given (j.value, [])) (n, []) (j.passes [] []) in
     let same : j.value ≡ n = ap (λ (p : ℕ × List ℕ). p.0) (ok_is (j.value, []) (n, []) g.1) in
     let some : j.value ≡ 0 → ⊥ = eqb-false _ _ g.0 in
     subst (λ m. IsFuel version m text) same (omega arith, j.is.1, j.is.0.1)
 
-from_fuel : (version : Version) (n : ℕ) (text : List ℕ) → IsFuel version n text → Judged (IsUpTo version Bits32 1000000) some_fuel n text
+from_fuel : (version : Version) (n : ℕ) (text : List ℕ) → IsFuel version n text → Judged (IsUpTo version Bits32 fuel_limit) some_fuel n text
 from_fuel version n text is = record {
   value = n;
   is = ((omega (arith, is.1), is.2), is.1);
@@ -154,14 +155,14 @@ up_to_of_nothing version size limit = limited_of_nothing limit (number_at versio
 pub fuel_reads : (version : Version) → Reads (fuel_at version) (IsFuel version)
 unfolding fuel_at
 fuel_reads version =
-    let read = number_up_to version Bits32 1000000 in
-    reads_as (fuel_at version) (Judged (IsUpTo version Bits32 1000000) some_fuel) (IsFuel version) (to_fuel version) (from_fuel version)
-    (reads_judged read some_fuel (IsUpTo version Bits32 1000000) BadCount tt (λ n. tested BadCount (eqb n 0) n) (up_to_of_nothing version Bits32 1000000) (up_to_reads version Bits32 1000000))
+    let read = number_up_to version Bits32 fuel_limit in
+    reads_as (fuel_at version) (Judged (IsUpTo version Bits32 fuel_limit) some_fuel) (IsFuel version) (to_fuel version) (from_fuel version)
+    (reads_judged read some_fuel (IsUpTo version Bits32 fuel_limit) BadCount tt (λ n. tested BadCount (eqb n 0) n) (up_to_of_nothing version Bits32 fuel_limit) (up_to_reads version Bits32 fuel_limit))
 
 fuel_unfinished : (version : Version) → Unfinished (fuel_at version) (IsUnfinished version)
 unfolding fuel_at
 fuel_unfinished version =
-    unfinished_judged (number_up_to version Bits32 1000000) some_fuel (IsUpTo version Bits32 1000000) BadCount tt (λ n. tested BadCount (eqb n 0) n) (IsUnfinished version) (up_to_unfinished version Bits32 1000000)
+    unfinished_judged (number_up_to version Bits32 fuel_limit) some_fuel (IsUpTo version Bits32 fuel_limit) BadCount tt (λ n. tested BadCount (eqb n 0) n) (IsUnfinished version) (up_to_unfinished version Bits32 fuel_limit)
 
 pub fuel_begins : (version : Version) → Begins (fuel_at version) (IsFuel version) (IsUnfinished version)
 fuel_begins version =

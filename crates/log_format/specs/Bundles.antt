@@ -1,6 +1,7 @@
 -- What contracts see of a bundle, and which bundles a version of the format can hold.
 use Rattle.std.specs.Prelude.{ℕ, ◌<◌, ◌≤◌, ◌^◌, List, length, get_or, map}
 use Rattle.std.specs.List.{AllByRecursion}
+use Rattle.stride_isa.specs.Limits.{fuel_limit, thread_limit}
 use Rattle.interleavings.specs.declared.event.LogEntry.{LogEntry}
 use Rattle.interleavings.specs.declared.event.LogEntry.TheVariants.{Read, Write, Update, Enter}
 use Rattle.stride_base.specs.Listed.{Listed}
@@ -26,9 +27,9 @@ bundled bundle = record { fuel = bundle.fuel; text = bundle.text.items; logs = l
 -- number of entries of each
 pub record IsWithin (bundle : Bundled) : Type 0 where
   pub some_fuel : 1 ≤ bundle.fuel
-  pub fuel : bundle.fuel ≤ 1000000
+  pub fuel : bundle.fuel ≤ fuel_limit
   pub text : length bundle.text < 2 ^ 32
-  pub threads : length bundle.logs ≤ 16
+  pub threads : length bundle.logs ≤ thread_limit
   pub counts : AllByRecursion (λ log. length log ≤ bundle.fuel) bundle.logs
 
 -- there are updates from version 2 on

@@ -2,6 +2,7 @@
 -- The reading of a part gives its value and the bytes after it. A fault names its place by how many bytes are left there.
 use Rattle.std.specs.Prelude.{ℕ, zero, suc, ◌+◌, ◌*◌, ◌-◌, ◌/◌, ◌%◌, ◌==◌, List, [], ◌∷◌, length, take, drop, Option, Some, None, Result, Ok, Err, nat_lt, if◌then◌else◌}
 use Rattle.std.specs.Int.{byte_len, from_be_bytes}
+use Rattle.stride_isa.specs.Limits.{fuel_limit, thread_limit}
 use Rattle.interleavings.specs.declared.event.LogEntry.{LogEntry}
 use Rattle.interleavings.specs.declared.event.LogEntry.TheVariants.{Read, Write, Update, Enter}
 use Rattle.log_format.specs.declared.entries.Kind.{Kind}
@@ -108,10 +109,10 @@ number_at Two size bytes = limited (greatest size) grouped_at bytes
 unfoldable pub number_up_to : Version → Size → ℕ → List ℕ → Result (ℕ × List ℕ) Fault
 number_up_to version size limit bytes = limited limit (number_at version size) bytes
 
--- the bound on the instructions, from 1 to 1,000,000
+-- the bound on the instructions, from 1 to its limit
 unfoldable pub fuel_at : Version → List ℕ → Result (ℕ × List ℕ) Fault
 fuel_at version bytes = do
-  n ← number_up_to version Bits32 1000000 bytes
+  n ← number_up_to version Bits32 fuel_limit bytes
   if n.0 == 0 then Err (fault BadCount bytes) else Ok n
 
 -- ---- the text
@@ -244,7 +245,7 @@ unfoldable pub body_at : Version → List ℕ → Result (Bundled × List ℕ) F
 body_at version bytes = do
   fuel ← fuel_at version bytes
   text ← text_at version fuel.1
-  threads ← number_up_to version Bits16 16 text.1
+  threads ← number_up_to version Bits16 thread_limit text.1
   logs ← logs_at version fuel.0 threads.0 threads.1
   Ok (record { fuel = fuel.0; text = text.0; logs = logs.0 }, logs.1)
 

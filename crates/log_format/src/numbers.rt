@@ -8,6 +8,7 @@ use crate::fault::{Fault, ReadError};
 use crate::format_error::FormatKind;
 use crate::version::{Size, Version};
 use byteorder::{BigEndian, ByteOrder};
+use stride_isa::limits::{FUEL_LIMIT, THREAD_LIMIT};
 
 #[tactic(auto, unfolding(crate::specs::Reading::wide_at), using(crate::proofs::BigNumbers::big_number_of))]
 fn wide_at(size: Size, bytes: &[u8]) -> Result<(u64, &[u8]), ReadError>
@@ -100,10 +101,10 @@ pub(crate) fn u32_at(version: Version, bytes: &[u8]) -> Result<(u32, &[u8]), Rea
 /// The number of threads.
 #[tactic(auto, unfolding(crate::specs::Reading::number_up_to))]
 pub(crate) fn threads_at(version: Version, bytes: &[u8]) -> Result<(u16, &[u8]), ReadError>
-    ensures { Gives (λ x. (x.0, x.1.now)) result (number_up_to version Size.Bits16 16 bytes.now) }
+    ensures { Gives (λ x. (x.0, x.1.now)) result (number_up_to version Size.Bits16 THREAD_LIMIT bytes.now) }
 {
     let (threads, rest) = number_at(version, Size::Bits16, bytes)?;
-    if threads > 16 {
+    if threads > THREAD_LIMIT as u64 {
         return Err(ReadError::at(FormatKind::BadCount, bytes));
     }
     Ok((threads as u16, rest))
@@ -130,7 +131,7 @@ pub(crate) fn u32_up_to(
 pub(crate) fn fuel_at(version: Version, bytes: &[u8]) -> Result<(u32, &[u8]), ReadError>
     ensures { Gives (λ x. (x.0, x.1.now)) result (fuel_at version bytes.now) }
 {
-    let (fuel, rest) = u32_up_to(version, 1_000_000, bytes)?;
+    let (fuel, rest) = u32_up_to(version, FUEL_LIMIT, bytes)?;
     if fuel == 0 {
         return Err(ReadError::at(FormatKind::BadCount, bytes));
     }

@@ -11,7 +11,9 @@ use std::alloc::{AllocError, Global};
 use std::fmt::Write;
 use std::test::Fail;
 use stride_base::List;
+use stride_base::limits::ORDER_LIMIT;
 use stride_isa::Checked;
+use stride_isa::limits::{FUEL_LIMIT, THREAD_LIMIT};
 use thread_rerun::rerun;
 
 /// The bundle of the program that writes 4 and reads it, with its logs.
@@ -23,7 +25,7 @@ const FUEL: u32 = 100_000;
 
 /// The recording of a program by an order of atomic steps.
 fn recording(alloc: Global, program: &Checked, order: &[u8]) -> Result<Driven, Fail> {
-    if order.len() > 1_000_000 {
+    if order.len() > ORDER_LIMIT {
         return Err("a long order")?;
     }
     Ok(drive(alloc, program, FUEL, 1000, order)?)
@@ -41,9 +43,9 @@ fn can_be_spelled(bundle: &Bundle) -> bool
     ensures { IsTrue result → IsWithin (bundled bundle.now) }
 {
     1 <= bundle.fuel
-        && bundle.fuel <= 1_000_000
+        && bundle.fuel <= FUEL_LIMIT
         && bundle.text.len() <= 10_000
-        && bundle.logs.len() <= 16
+        && bundle.logs.len() <= THREAD_LIMIT
         && are_short(bundle.logs.as_slice(), bundle.fuel)
 }
 

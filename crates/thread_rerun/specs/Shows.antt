@@ -1,5 +1,6 @@
 -- What the code keeps and answers, beside what following says. Only private clauses cite this module.
 use Rattle.std.specs.Prelude.{◌≡◌, ℕ, ◌+◌, ◌-◌, ◌<◌, ◌≤◌, List, [], ◌∷◌, ◌++◌, length, map, drop, replicate, Option, Some, None, Result, Ok, Err, slice_index, slice_set}
+use Rattle.stride_isa.specs.Limits.{monitor_limit}
 use Rattle.stride_isa.specs.Changes.{applied}
 use Rattle.stride_isa.specs.Listing.{Listing, cell_count, starts_of}
 use Rattle.sc_machine.specs.declared.stop.Stop.{Stop}
@@ -27,17 +28,17 @@ seen_met (Makes event) = told.Makes event
 seen_met Over = told.Over
 seen_met Off = told.Off
 
--- an exit names one of 64 monitors
+-- an exit names a monitor that a program can have
 abbrev pub HasMonitor : Stop → Type 0
-HasMonitor (stops.Exit monitor) = monitor < 64
+HasMonitor (stops.Exit monitor) = monitor < monitor_limit
 HasMonitor stop = Unit {0}
 
--- a turn that is begun is of one of 64 monitors
+-- a turn that is begun is of a monitor that a program can have
 abbrev pub IsBelow : Option TurnOf → Type 0
 IsBelow None = Unit {0}
-IsBelow (Some begun) = begun.monitor < 64
+IsBelow (Some begun) = begun.monitor < monitor_limit
 
--- an entry names one of 64 monitors
+-- an entry names a monitor that a program can have
 abbrev pub MonitorBelow : Event → Type 0
 MonitorBelow event = IsBelow (entered_by event)
 

@@ -8,19 +8,19 @@ use sc_machine::StandingThread;
 use std::alloc::Global;
 use stride_base::NoMemory;
 use stride_isa::Checked;
-use stride_isa::limits::FUEL_LIMIT;
+use stride_isa::limits::{FUEL_LIMIT, MONITOR_LIMIT};
 
 /// A thread that is run again, with the place of the next entry of its log, and the turn of its last entry into each monitor.
 #[derive(Drop)]
 pub(crate) struct Follower<'p> {
     pub(crate) thread: StandingThread<'p>,
     pub(crate) place: usize,
-    pub(crate) turns: [u32; 64],
+    pub(crate) turns: [u32; MONITOR_LIMIT],
 }
 
 // The place of the next entry after an event. An exit uses none.
 fn next_place(place: usize, event: Event) -> usize
-    requires { place < 18446744073709551615 }
+    requires { place < usize.MAX }
     ensures { result ≡ place_after event place }
 {
     match event {
@@ -31,7 +31,7 @@ fn next_place(place: usize, event: Event) -> usize
 }
 
 // Keeps the turn of an entry into a monitor.
-fn keep_turn(turns: &mut [u32; 64], event: Event)
+fn keep_turn(turns: &mut [u32; MONITOR_LIMIT], event: Event)
     requires { MonitorBelow event }
     ensures { (λ m. slice_index turns.new m) ≡ turns_after event (λ m. slice_index turns.old m) }
 {
@@ -61,7 +61,7 @@ impl<'p> Follower<'p> {
         Ok(Follower {
             thread: StandingThread::start(alloc, program, number, fuel)?,
             place: 0,
-            turns: [0; 64],
+            turns: [0; MONITOR_LIMIT],
         })
     }
 
@@ -69,7 +69,7 @@ impl<'p> Follower<'p> {
     pub(crate) fn go(&mut self, event: Event)
         requires suits { Suits (stop_here self.old.thread) event }
         requires monitor { MonitorBelow event }
-        requires place { self.old.place < 18446744073709551615 }
+        requires place { self.old.place < usize.MAX }
         ensures { IsGone self.old self.new event }
     {
         self.place = next_place(self.place, event);

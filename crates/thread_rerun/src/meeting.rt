@@ -7,6 +7,7 @@ ghost use Rattle.thread_rerun.specs.Shows.{seen_met, Fits, HasMonitor};
 use interleavings::{Event, LogEntry};
 use sc_machine::Stop;
 use stride_isa::Change;
+use stride_isa::limits::MONITOR_LIMIT;
 
 /// What a thread meets: an event that it makes, that it is over, or an entry that it can't use.
 #[derive(Clone, Copy, Debug, PartialEq, Eq)]
@@ -82,7 +83,7 @@ fn meet_enter(mon: u32, next: Option<LogEntry>) -> Met
 }
 
 /// What the thread meets at this stop, given the turn of its last entry into each monitor.
-pub(crate) fn meet(stop: Stop, next: Option<LogEntry>, turns: &[u32; 64]) -> Met
+pub(crate) fn meet(stop: Stop, next: Option<LogEntry>, turns: &[u32; MONITOR_LIMIT]) -> Met
     requires { HasMonitor stop }
     ensures met { result ≡ seen_met (met_of stop next (λ m. slice_index turns.now m)) }
     ensures fits { Fits stop result }

@@ -1,7 +1,7 @@
 use Rattle.std.proofs.Common.{◌≤◌, [], length, arith}
 use Rattle.std.specs.List.{AllByRecursion}
 use Rattle.std.proofs.lemmas.List.{length-replicate}
-use Rattle.stride_isa.specs.declared.limits.TheConstants.{FUEL_LIMIT}
+use Rattle.stride_isa.specs.Limits.{fuel_limit}
 use Rattle.interleavings.proofs.TraceLemmas.{each_equal}
 use Rattle.interleavings.proofs.traces.Traces.new.Goals as goal
 
@@ -12,6 +12,6 @@ invariant_of-result c =
       threads = simp length-replicate (omega arith);
       cells = omega (arith, c.each_cell_starts.ensures c.args.program.now.decls, c.facts.ensures.formed.limits.cells);
       monitors = omega arith;
-      counts = each_equal (λ events. length events ≤ FUEL_LIMIT) c.threads.result [] (omega arith);
+      counts = each_equal (λ events. length events ≤ fuel_limit) c.threads.result [] (omega arith);
       ranges = each_equal (AllByRecursion _) c.threads.result [] tt;
     })
