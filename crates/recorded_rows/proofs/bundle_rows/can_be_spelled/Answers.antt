@@ -5,8 +5,8 @@ use Rattle.interleavings.specs.declared.event.LogEntry.{LogEntry}
 use Rattle.log_format.specs.Bundles.{lists_of}
 use Rattle.recorded_rows.proofs.bundle_rows.can_be_spelled.Goals as goal
 
-pub returns-then-len-le16 : goal.returns-then-len-le16
-returns-then-len-le16 c short = record {
+pub returns-then-len-le-THREAD_LIMIT : goal.returns-then-len-le-THREAD_LIMIT
+returns-then-len-le-THREAD_LIMIT c short = record {
   some_fuel = search rules;
   fuel = search rules;
   text = search rules;
