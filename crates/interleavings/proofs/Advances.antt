@@ -20,7 +20,7 @@ use Rattle.interleavings.specs.Recording.{Setting, state_of, acts_of, gives_up, 
 use Rattle.interleavings.specs.Driving.{Drive, thread_of, at_of, next_step, finished_in, thread_after, stepped, stepped_if, advance, advance_all, stranger}
 use Rattle.interleavings.specs.Following.{no_turns}
 use Rattle.interleavings.specs.EventStep.{after_event}
-use Rattle.interleavings.proofs.HeldFlags.{flags_after, HoldsAtExit, IsAnsweredAs, stands_answered, settled-held}
+use Rattle.interleavings.proofs.HeldFlags.{flags_after, FitsStop, IsAnsweredAs, stands_answered, settled-held}
 use Rattle.interleavings.proofs.StepPeople.{step_here, step_elsewhere}
 use Rattle.interleavings.proofs.OddNumbers.{Claims, odd_after}
 use Rattle.interleavings.proofs.Finishes.{IsFinished, step_finishes}
@@ -51,11 +51,11 @@ pub record IsRun (g : Setting) (d : Drive) : Type 0 where
   pub walked : (t : ℕ) → t < length g.program.threads → HasThreadWalked g t (thread_of d t) (acts_of g d.steps t)
   pub odd : (cell : ℕ) → is_even ((state_of g d.steps).words (Number cell)) ≡ false → IsClaimed g d.steps cell
 
--- at a shared instruction the answer sets the flags as that says, and an exit is of a monitor that is held
-pub answered_flags : (stop : Stop) (g : Setting) (t : ℕ) (s : Thread) → IsShared stop → stop_of g.program t s ≡ stop → (done_held (op_at g.program t s.pc) s.held ≡ flags_after stop s.held) × HoldsAtExit stop s.held
-answered_flags stop g t s shared e = by_stop stop shared (subst (λ (x : Stop). IsAnsweredAs x (op_at g.program t s.pc) s.held) e (stands_answered g.program t s))
+-- the instruction fits the stop of a thread that stands at a shared one
+pub fits_stop : (stop : Stop) (g : Setting) (t : ℕ) (s : Thread) → IsShared stop → stop_of g.program t s ≡ stop → FitsStop stop (op_at g.program t s.pc) s.held
+fits_stop stop g t s shared e = by_stop stop shared (subst (λ (x : Stop). IsAnsweredAs x (op_at g.program t s.pc) s.held) e (stands_answered g.program t s))
   where
-    by_stop : (x : Stop) → IsShared x → IsAnsweredAs x (op_at g.program t s.pc) s.held → (done_held (op_at g.program t s.pc) s.held ≡ flags_after x s.held) × HoldsAtExit x s.held
+    by_stop : (x : Stop) → IsShared x → IsAnsweredAs x (op_at g.program t s.pc) s.held → FitsStop x (op_at g.program t s.pc) s.held
     by_stop (stops.Read cell) shared h = h
     by_stop (stops.Write cell value) shared h = h
     by_stop (stops.Update cell change) shared h = h
@@ -97,7 +97,7 @@ module _ (g : Setting) (t : ℕ) (stop : Stop) (d : Drive) (there : t < length g
 
   -- its next step may be made
   may_here : May (kind_at stop (acts_of g d.steps t).phase) (at_of stop) (acts_of g d.steps t)
-  may_here = may_next g.patience stop (thread_of d t).held (acts_of g d.steps t) shared (answered_flags stop g t (thread_of d t) shared e).1 in_place_here
+  may_here = may_next g.patience stop (thread_of d t).held (acts_of g d.steps t) shared (fits_stop stop g t (thread_of d t) shared e).at_exit in_place_here
 
   -- the steps are those of the program's threads
   stepped-members : (s : Step) → Among s (stepped g next d).steps → s.who < length g.program.threads
@@ -118,7 +118,7 @@ module _ (g : Setting) (t : ℕ) (stop : Stop) (d : Drive) (there : t < length g
       let met = st.words (word_of step.kind step.at) in
       let new = acts_after step.kind step.at step.value old met in
       let fits : IsThreadInPlace g t (thread_after g t (finished_in st step) new.looks (thread_of d t)) new =
-      thread_after-in_place g t (thread_of d t) stop new (finished_in st step) e (answered_flags stop g t (thread_of d t) shared e).0
+      thread_after-in_place g t (thread_of d t) stop new (finished_in st step) e (fits_stop stop g t (thread_of d t) shared e).flags_are
       (in_place_after g.patience stop (thread_of d t).held old.name old.phase old.events old.held old.looks met shared in_place_here) in
       subst (λ (a : Acts). IsThreadInPlace g t (thread_after g t (finished_in st step) a.looks (thread_of d t)) a) (sym (step_here g step d.steps)) fits
 
@@ -145,7 +145,7 @@ module _ (g : Setting) (t : ℕ) (stop : Stop) (d : Drive) (there : t < length g
       let st = state_of g d.steps in
       let met = st.words (word_of step.kind step.at) in
       let new = acts_after step.kind step.at step.value old met in
-      let holds = turn_at_exit stop s.held old.held (answered_flags stop g t s shared e).1 in_place_here.turns in
+      let holds = turn_at_exit stop s.held old.held (fits_stop stop g t s shared e).at_exit in_place_here.turns in
       let finishes = step_finishes stop old.name old.phase old.events old.held old.looks (turns_by old.events no_turns) met shared in_place_here.fits holds (run.walked t there).entered in
       let walked : HasThreadWalked g t (thread_after g t (finished_in st step) new.looks s) new =
       thread_after-walked g t s old.events old.held new.held (finished_in st step) new.looks (subst IsShared (sym e) shared) (run.walked t there)

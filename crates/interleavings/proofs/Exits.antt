@@ -18,7 +18,7 @@ use Rattle.interleavings.specs.Recording.{Setting, acts_of}
 use Rattle.interleavings.specs.Driving.{Drive, thread_of, next_step, stepped_if, advance}
 use Rattle.interleavings.specs.Walking.{is_exit}
 use Rattle.interleavings.specs.EventStep.{after_event}
-use Rattle.interleavings.proofs.Advances.{IsRun, answered_flags}
+use Rattle.interleavings.proofs.Advances.{IsRun, fits_stop}
 use Rattle.interleavings.proofs.HeldFlags.{none_held}
 use Rattle.interleavings.proofs.MachineLaws.{MachineLaws, IsAlive, start-alive, after_event-made}
 use Rattle.interleavings.proofs.Walked.{HasWalked, not_given_up}
@@ -33,7 +33,7 @@ not_ended (Some end) r monitor e = cc
 exit_has_fuel : (g : Setting) (t : ℕ) (s : Thread) (monitor : ℕ) → stop_of g.program t s ≡ stops.Exit monitor → IsAlive g.fuel s → s.made < g.fuel
 exit_has_fuel g t s monitor e (inl left) = left (not_ended s.ended (row g.program (op_at g.program t s.pc) s.pc s.stack s.locals s.held) monitor e)
 exit_has_fuel g t s monitor e (inr start) =
-    let holding : holds s.held monitor ≡ true = (answered_flags (stops.Exit monitor) g t s tt e).1 in
+    let holding : holds s.held monitor ≡ true = (fits_stop (stops.Exit monitor) g t s tt e).at_exit in
     absurd (true≢false (sym holding ∙ ap (λ (x : Thread). holds x.held monitor) start ∙ none_held monitor_limit monitor))
 
 -- it came there by its events, and did not give up

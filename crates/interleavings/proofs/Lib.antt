@@ -21,6 +21,7 @@ pub mod MachineLaws
 pub mod NextSteps
 pub mod OddNumbers
 pub mod Reaching
+pub mod Recorded
 pub mod Row
 pub mod Settling
 pub mod ShortLogs

@@ -1,6 +1,6 @@
 //! Laws of recordings and of following, over the definitions alone. Each is the contract of a function that does nothing,
 //! but for naming the laws of the machine on which its proof stands.
-ghost use Rattle.interleavings.specs.Laws.{EventMakesMore, DrivenIsAHistory, DrivenIsFollowed, DrivenIsShort, DrivenGivesUp, NothingIsLeft, FollowedUsesItsLog, FollowedWalks, WalksAreFollowed};
+ghost use Rattle.interleavings.specs.Laws.{EventMakesMore, DrivenIsAHistory, DrivenIsFollowed, DrivenIsShort, DrivenGivesUp, DrivenIsARecording, NothingIsLeft, FollowedUsesItsLog, FollowedWalks, WalksAreFollowed};
 
 use sc_machine::{fuel_is_left, settled_makes_no_less};
 
@@ -37,10 +37,18 @@ pub fn driven_is_short()
     settled_makes_no_less();
 }
 
-/// A thread whose row of odd looks has reached the patience ended as stopped.
+/// A thread whose row of odd looks has reached the patience ended as stopped, at the entry into that row's monitor.
 pub fn driven_gives_up()
     ensures { DrivenGivesUp }
 {}
+
+/// What an order gives is a recording, where each thread that was stopped had given up.
+pub fn driven_is_a_recording()
+    ensures { DrivenIsARecording }
+{
+    fuel_is_left();
+    settled_makes_no_less();
+}
 
 /// Once a run has settled, no thread has anything left of what it had claimed or loaded, and none stands at an exit.
 pub fn nothing_is_left()
