@@ -4,6 +4,7 @@ use Rattle.std.proofs.lemmas.Bool.{le-ltb, lt-ltb}
 use Rattle.std.proofs.Common.{cond, refl, ◌≡◌, ℕ, ◌+◌, ◌<◌, ◌≤◌, List, Bool, true, false, Option, Some, None, nat_lt, unwrap_or, length, sym, ◌∙◌, ap, subst, arith}
 use Rattle.stride_base.specs.Listed.{Listed}
 use Rattle.stride_isa.specs.Instructions.{kind, popped}
+use Rattle.stride_isa.specs.Limits.{fuel_limit, stack_limit}
 use Rattle.stride_isa.specs.Listing.{Listing, code_of, op_at}
 use Rattle.stride_isa.specs.Validity.{Reaches, Begin, Follow, IsFine, Leads, depth_after}
 use Rattle.stride_isa.specs.declared.op.Op.{Op}
@@ -18,7 +19,7 @@ use Rattle.sc_machine.specs.ThreadRun.{Run, stop_at, IsShared, TakesWord}
 use Rattle.sc_machine.specs.ThreadRunInside.{IsRun}
 use Rattle.sc_machine.proofs.Rows.{row_leads, shared_leads}
 
-pub is_run_at_start : (p : Listing) (thread fuel depth : ℕ) → depth ≡ 0 → thread < length p.threads → 0 < length (code_of p thread) → 1 ≤ fuel → fuel ≤ 1000000 → IsRun p thread fuel 0 depth 0 None
+pub is_run_at_start : (p : Listing) (thread fuel depth : ℕ) → depth ≡ 0 → thread < length p.threads → 0 < length (code_of p thread) → 1 ≤ fuel → fuel ≤ fuel_limit → IsRun p thread fuel 0 depth 0 None
 is_run_at_start p thread fuel depth empty there inside some limit = record {
   thread_is = there;
   inside = inside;
@@ -49,9 +50,9 @@ enough_for p thread pc depth op stack is deep fine =
     subst (λ (n : ℕ). popped (kind op) ≤ n) (sym deep) (subst (λ (x : Op). popped (kind x) ≤ depth) (sym is) fine.enough)
 
 -- and room for its results
-pub room_for : (p : Listing) (thread pc depth : ℕ) (op : Op) (stack : List ℕ) → op ≡ op_at p thread pc → length stack ≡ depth → IsFine p thread pc depth → depth_after op (length stack) ≤ 64
+pub room_for : (p : Listing) (thread pc depth : ℕ) (op : Op) (stack : List ℕ) → op ≡ op_at p thread pc → length stack ≡ depth → IsFine p thread pc depth → depth_after op (length stack) ≤ stack_limit
 room_for p thread pc depth op stack is deep fine =
-    subst (λ (n : ℕ). depth_after op n ≤ 64) (sym deep) (subst (λ (x : Op). depth_after x depth ≤ 64) (sym is) fine.room)
+    subst (λ (n : ℕ). depth_after op n ≤ stack_limit) (sym deep) (subst (λ (x : Op). depth_after x depth ≤ stack_limit) (sym is) fine.room)
 
 -- what always holds stays after an instruction that leads on
 pub is_run_after : (p : Listing) (thread fuel pc depth made : ℕ) (ended : Option End) (op : Op) (next after : ℕ) (later : Option End) → IsRun p thread fuel pc depth made ended → ended ≡ None → op ≡ op_at p thread pc → IsFine p thread pc depth → Leads op pc next → after ≡ depth_after op depth → later ≡ out_of_steps fuel (made + 1) → IsRun p thread fuel next after (made + 1) later
@@ -61,7 +62,7 @@ is_run_after p thread fuel pc depth made ended op next after later run goes_on i
     record {
       thread_is = run.thread_is;
       inside = fine.inside next leads';
-      reaches = Follow pc depth next after run.reaches run.inside fine.enough deep' (subst (λ (n : ℕ). n ≤ 64) (sym deep') fine.room) leads' (fine.inside next leads');
+      reaches = Follow pc depth next after run.reaches run.inside fine.enough deep' (subst (λ (n : ℕ). n ≤ stack_limit) (sym deep') fine.room) leads' (fine.inside next leads');
       within = omega (arith, run.going goes_on);
       limit = run.limit;
       going = λ e. fuel_left fuel (made + 1) (sym end ∙ e);

@@ -1,4 +1,5 @@
 pub mod Laws
+pub mod Limits
 pub mod Machine
 pub mod Made
 pub mod Operands

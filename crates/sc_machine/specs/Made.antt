@@ -4,6 +4,7 @@ use Rattle.stride_base.specs.Listed.{Listed}
 use Rattle.stride_isa.specs.Listing.{Listing}
 use Rattle.sc_machine.specs.declared.instruction.Next.{Next}
 use Rattle.sc_machine.specs.declared.instruction.Next.TheVariants as nexts
+use Rattle.sc_machine.specs.Limits.{line_limit}
 use Rattle.sc_machine.specs.ThreadRun.{NamesCell}
 use Rattle.sc_machine.specs.ThreadStep.{Row, Goes, Ends, Stands, printed_by}
 
@@ -32,7 +33,7 @@ pub record Made (row : Row) (next : Next) (stack stack' locals locals' : List �
   pub locals_are : locals' ≡ locals_after row locals
   pub printed : out'.items ≡ out.items ++ printed_by row
   pub room : out'.spare + length (printed_by row) ≡ out.spare
-  pub few : length (printed_by row) ≤ 21
+  pub few : length (printed_by row) ≤ line_limit
 
 -- the cell or the monitor of a shared instruction is one of the program's
 abbrev pub NextNamesCell : Listing → Next → Type 0

@@ -1,5 +1,6 @@
 -- What contracts see of a `ThreadRun`: a thread's state without its output, which lies with the caller.
 use Rattle.std.specs.Prelude.{◌≡◌, ℕ, ◌<◌, length, List, [], Bool, Option, Some, None}
+use Rattle.stride_isa.specs.Limits.{cell_limit, monitor_limit}
 use Rattle.stride_isa.specs.Listing.{Listing, cell_count}
 use Rattle.sc_machine.specs.declared.end.End.{End}
 use Rattle.sc_machine.specs.declared.stop.Stop.{Stop}
@@ -78,13 +79,13 @@ TakesWord (Exit monitor) (Some word) = ⊥
 TakesWord (Exit monitor) None = Unit {0}
 TakesWord (Ended end) word = ⊥
 
--- the cell is one of the program's, which are 256 at most
+-- the cell is one of the program's, which are no more than the limit
 abbrev pub IsCell : Listing → ℕ → Type 0
-IsCell p cell = (cell < cell_count p.decls) × (cell < 256)
+IsCell p cell = (cell < cell_count p.decls) × (cell < cell_limit)
 
--- the monitor is one of the program's, which are 64 at most
+-- the monitor is one of the program's, which are no more than the limit
 abbrev pub IsMonitor : Listing → ℕ → Type 0
-IsMonitor p monitor = (monitor < length p.monitors) × (monitor < 64)
+IsMonitor p monitor = (monitor < length p.monitors) × (monitor < monitor_limit)
 
 -- the cell or the monitor that a stop names is one of the program's
 abbrev pub NamesCell : Listing → Stop → Type 0

@@ -2,6 +2,7 @@
 -- next shared one or to its end.
 use Rattle.std.specs.Prelude.{ℕ, zero, suc, ◌+◌, ◌-◌, ◌*◌, ◌/◌, ◌%◌, ◌^◌, ◌==◌, Bool, true, false, if◌then◌else◌, List, [], ◌∷◌, ◌++◌, replicate, Option, Some, None, nat_lt, unwrap_or, slice_index, slice_index_or, slice_set, bit_and, bit_or, bit_xor, decimal}
 use Rattle.std.specs.List.{list_any}
+use Rattle.stride_isa.specs.Limits.{local_count, monitor_limit}
 use Rattle.stride_isa.specs.Listing.{Listing, op_at, decl_at, cells_of, first_cell}
 use Rattle.stride_isa.specs.declared.change.Change.TheVariants.{Store, Plus, IfEqual}
 use Rattle.stride_isa.specs.declared.op.Op.{Op}
@@ -26,7 +27,7 @@ pub record Thread : Type 0 where
 
 -- a thread that has made nothing yet
 abbrev pub start_thread : Thread
-start_thread = record { pc = 0; stack = []; locals = replicate 16 0; held = replicate 64 false; out = []; made = 0; ended = None }
+start_thread = record { pc = 0; stack = []; locals = replicate local_count 0; held = replicate monitor_limit false; out = []; made = 0; ended = None }
 
 -- what an instruction comes to: the thread goes on, with this position, stack and locals and these bytes printed; it
 -- ends; or the instruction is a shared one, at which the thread stands until it is answered
@@ -166,8 +167,32 @@ stop_in (Stands stop) = stop
 abbrev pub stop_of : Listing → ℕ → Thread → Stop
 stop_of p t s = stop_in (now p t s)
 
--- the stack after a shared instruction, given the word that it reads; an update pushes the old value
+-- the stack after a shared instruction, given the word that it reads; an update pushes the old value. A local instruction
+-- is not made by an answer and leaves the stack
 abbrev pub done_stack : Op → List ℕ → ℕ → List ℕ
+done_stack (ops.Push number) stack word = stack
+done_stack ops.Dup stack word = stack
+done_stack ops.Drop stack word = stack
+done_stack ops.Swap stack word = stack
+done_stack ops.Over stack word = stack
+done_stack ops.Add stack word = stack
+done_stack ops.Sub stack word = stack
+done_stack ops.Mul stack word = stack
+done_stack ops.Div stack word = stack
+done_stack ops.Rem stack word = stack
+done_stack ops.And stack word = stack
+done_stack ops.Or stack word = stack
+done_stack ops.Xor stack word = stack
+done_stack ops.Shl stack word = stack
+done_stack ops.Shr stack word = stack
+done_stack ops.Eq stack word = stack
+done_stack ops.Lt stack word = stack
+done_stack ops.Not stack word = stack
+done_stack (ops.Get local) stack word = stack
+done_stack (ops.Set local) stack word = stack
+done_stack (ops.Jump target) stack word = stack
+done_stack (ops.Jz target) stack word = stack
+done_stack (ops.Jnz target) stack word = stack
 done_stack (ops.Read decl) stack word = word ∷ stack
 done_stack (ops.Write decl) stack word = on_top stack (λ top below. below)
 done_stack (ops.ReadAt decl) stack word = on_top stack (λ index below. word ∷ below)
@@ -175,13 +200,47 @@ done_stack (ops.WriteAt decl) stack word = on_two stack (λ value index below. b
 done_stack (ops.Xchg decl) stack word = on_top stack (λ top below. word ∷ below)
 done_stack (ops.AddTo decl) stack word = on_top stack (λ top below. word ∷ below)
 done_stack (ops.Cas decl) stack word = on_two stack (λ expected new below. word ∷ below)
-done_stack op stack word = stack
+done_stack (ops.Enter monitor) stack word = stack
+done_stack (ops.Exit monitor) stack word = stack
+done_stack ops.Print stack word = stack
+done_stack ops.Halt stack word = stack
 
--- the monitors held after a shared instruction
+-- the monitors held after a shared instruction; a local one leaves them
 abbrev pub done_held : Op → List Bool → List Bool
+done_held (ops.Push number) held = held
+done_held ops.Dup held = held
+done_held ops.Drop held = held
+done_held ops.Swap held = held
+done_held ops.Over held = held
+done_held ops.Add held = held
+done_held ops.Sub held = held
+done_held ops.Mul held = held
+done_held ops.Div held = held
+done_held ops.Rem held = held
+done_held ops.And held = held
+done_held ops.Or held = held
+done_held ops.Xor held = held
+done_held ops.Shl held = held
+done_held ops.Shr held = held
+done_held ops.Eq held = held
+done_held ops.Lt held = held
+done_held ops.Not held = held
+done_held (ops.Get local) held = held
+done_held (ops.Set local) held = held
+done_held (ops.Jump target) held = held
+done_held (ops.Jz target) held = held
+done_held (ops.Jnz target) held = held
+done_held (ops.Read decl) held = held
+done_held (ops.Write decl) held = held
+done_held (ops.ReadAt decl) held = held
+done_held (ops.WriteAt decl) held = held
+done_held (ops.Xchg decl) held = held
+done_held (ops.AddTo decl) held = held
+done_held (ops.Cas decl) held = held
 done_held (ops.Enter monitor) held = slice_set held monitor true
 done_held (ops.Exit monitor) held = slice_set held monitor false
-done_held op held = held
+done_held ops.Print held = held
+done_held ops.Halt held = held
 
 -- the thread after the shared instruction at which it stands, given the word that it reads, or 0 where it reads none
 abbrev pub answered : Listing → ℕ → ℕ → ℕ → Thread → Thread

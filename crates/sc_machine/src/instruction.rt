@@ -10,12 +10,13 @@ ghost use Rattle.sc_machine.specs.Made.{Made, NextNamesCell};
 ghost use Rattle.sc_machine.specs.Operands.{operands};
 
 use crate::end::End;
+use crate::limits::LINE_LIMIT;
 use crate::operands::Top;
 use crate::printing::push_line;
 use crate::stop::Stop;
 use crate::trap::Trap;
 use stride_base::List;
-use stride_isa::limits::{LOCAL_COUNT, MONITOR_LIMIT, STACK_LIMIT};
+use stride_isa::limits::{INSTRUCTION_LIMIT, LOCAL_COUNT, MONITOR_LIMIT, STACK_LIMIT};
 use stride_isa::{Change, Checked, Op, instructions};
 
 /// What an instruction came to.
@@ -243,6 +244,93 @@ macro_rules! arms {
     };
 }
 
+// What a shared instruction does to the parts once it is answered, and nothing for a local one, which is not answered.
+macro_rules! finished {
+    (stands Read ($program:ident $word:ident $words:ident $top:ident $held:ident) $decl:ident) => {
+        $top.push($words, $word)
+    };
+    (stands Write ($program:ident $word:ident $words:ident $top:ident $held:ident) $decl:ident) => {{
+        $top.pop($words);
+    }};
+    (stands ReadAt ($program:ident $word:ident $words:ident $top:ident $held:ident) $decl:ident) => {{
+        $top.pop($words);
+        $top.push($words, $word)
+    }};
+    (stands WriteAt ($program:ident $word:ident $words:ident $top:ident $held:ident) $decl:ident) => {{
+        $top.pop($words);
+        $top.pop($words);
+    }};
+    (stands Xchg ($program:ident $word:ident $words:ident $top:ident $held:ident) $decl:ident) => {{
+        $top.pop($words);
+        $top.push($words, $word)
+    }};
+    (stands AddTo ($program:ident $word:ident $words:ident $top:ident $held:ident) $decl:ident) => {{
+        $top.pop($words);
+        $top.push($words, $word)
+    }};
+    (stands Cas ($program:ident $word:ident $words:ident $top:ident $held:ident) $decl:ident) => {{
+        $top.pop($words);
+        $top.pop($words);
+        $top.push($words, $word)
+    }};
+    (stands Enter ($program:ident $word:ident $words:ident $top:ident $held:ident) $monitor:ident) => {
+        $held[monitor_index($program, $monitor)] = true
+    };
+    (stands Exit ($program:ident $word:ident $words:ident $top:ident $held:ident) $monitor:ident) => {
+        $held[monitor_index($program, $monitor)] = false
+    };
+    (pushes $variant:ident $parts:tt $value:ident) => {
+        ()
+    };
+    (stack $variant:ident $parts:tt $value:ident) => {
+        ()
+    };
+    (two $variant:ident $parts:tt $value:ident) => {
+        ()
+    };
+    (quotient $variant:ident $parts:tt $value:ident) => {
+        ()
+    };
+    (bits $variant:ident $parts:tt $value:ident) => {
+        ()
+    };
+    (shift $variant:ident $parts:tt $value:ident) => {
+        ()
+    };
+    (compare $variant:ident $parts:tt $value:ident) => {
+        ()
+    };
+    (complement $variant:ident $parts:tt $value:ident) => {
+        ()
+    };
+    (gets $variant:ident $parts:tt $value:ident) => {
+        ()
+    };
+    (sets $variant:ident $parts:tt $value:ident) => {
+        ()
+    };
+    (jumps $variant:ident $parts:tt $value:ident) => {
+        ()
+    };
+    (branches $variant:ident $parts:tt $value:ident) => {
+        ()
+    };
+    (prints $variant:ident $parts:tt $value:ident) => {
+        ()
+    };
+    (halts $variant:ident $parts:tt $value:ident) => {
+        ()
+    };
+}
+
+macro_rules! finishings {
+    (($parts:tt $op:ident) $([$variant:ident $operand:tt $name:literal $popped:literal $pushed:literal $class:ident $($how:tt)*])*) => {
+        match $op {
+            $(with_operand!($variant $operand value) => finished!($class $variant $parts value),)*
+        }
+    };
+}
+
 fn any_held(held: &[bool]) -> bool
     ensures { result ≡ list_any (λ flag. flag) held.now }
 {
@@ -304,11 +392,11 @@ pub fn execute(
     held: &[bool; MONITOR_LIMIT],
     out: &mut List<u8>,
 ) -> Next
-    requires position { pc < 65536 }
+    requires position { pc < INSTRUCTION_LIMIT }
     requires enough { popped (kind op) ≤ length (operands words.old top.old.depth) }
-    requires room { depth_after op (length (operands words.old top.old.depth)) ≤ 64 }
+    requires room { depth_after op (length (operands words.old top.old.depth)) ≤ STACK_LIMIT }
     requires names { Names program.now op }
-    requires spare { 21 ≤ out.old.spare }
+    requires spare { LINE_LIMIT ≤ out.old.spare }
     ensures made { Made (row program.now op pc (operands words.old top.old.depth) locals.old held.now) result (operands words.old top.old.depth) (operands words.new top.new.depth) locals.old locals.new out.old out.new }
     ensures names_cell { NextNamesCell program.now result }
 {
@@ -325,32 +413,11 @@ pub fn finish(
     held: &mut [bool; MONITOR_LIMIT],
 )
     requires enough { popped (kind op) ≤ length (operands words.old top.old.depth) }
-    requires room { depth_after op (length (operands words.old top.old.depth)) ≤ 64 }
+    requires room { depth_after op (length (operands words.old top.old.depth)) ≤ STACK_LIMIT }
     requires names { Names program.now op }
     ensures stack { operands words.new top.new.depth ≡ done_stack op (operands words.old top.old.depth) word }
     ensures held { held.new ≡ done_held op held.old }
     ensures whole { length words.new ≡ length words.old }
 {
-    match op {
-        Op::Read(_) => top.push(words, word),
-        Op::Write(_) => {
-            top.pop(words);
-        }
-        Op::ReadAt(_) | Op::Xchg(_) | Op::AddTo(_) => {
-            top.pop(words);
-            top.push(words, word);
-        }
-        Op::Cas(_) => {
-            top.pop(words);
-            top.pop(words);
-            top.push(words, word);
-        }
-        Op::WriteAt(_) => {
-            top.pop(words);
-            top.pop(words);
-        }
-        Op::Enter(monitor) => held[monitor_index(program, monitor)] = true,
-        Op::Exit(monitor) => held[monitor_index(program, monitor)] = false,
-        _ => {}
-    }
+    instructions!(finishings!((program word words top held) op));
 }

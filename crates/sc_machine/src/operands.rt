@@ -1,5 +1,6 @@
 //! The operand stack of a thread that runs: its words in place, and how many there are apart from them.
 ghost use Rattle.std.specs.Prelude.{◌≡◌, ℕ, List, ◌∷◌, ◌<◌, ◌≤◌, [], length, slice_index};
+ghost use Rattle.stride_isa.specs.Limits.{stack_limit};
 ghost use Rattle.sc_machine.specs.Operands.{operands};
 
 use stride_isa::limits::STACK_LIMIT;
@@ -10,7 +11,7 @@ use stride_isa::limits::STACK_LIMIT;
 #[derive(Clone, Copy)]
 pub struct Top {
     depth: usize,
-    ghost within: { depth ≤ 64 },
+    ghost within: { depth ≤ stack_limit },
 }
 
 #[tactic(auto, unfolding(crate::specs::Operands::operands))]
@@ -26,7 +27,7 @@ impl Top {
     /// Puts a word on the stack.
     #[inline(always)]
     pub fn push(&mut self, words: &mut [u64; STACK_LIMIT], word: u64)
-        requires { length (operands words.old self.old.depth) < 64 }
+        requires { length (operands words.old self.old.depth) < STACK_LIMIT }
         ensures { operands words.new self.new.depth ≡ word ∷ operands words.old self.old.depth }
     {
         words[self.depth] = word;

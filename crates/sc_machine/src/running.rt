@@ -6,6 +6,7 @@ ghost use Rattle.sc_machine.specs.ThreadRunInside.{IsRun};
 
 use crate::end::End;
 use crate::instruction::{Next, execute};
+use crate::limits::LINE_LIMIT;
 use crate::operands::Top;
 use crate::stop::Stop;
 use crate::task::Task;
@@ -31,7 +32,7 @@ pub fn run_on(
     out: &mut List<u8>,
 ) -> (Cursor, Stop)
     requires run { IsRun task.program.now task.thread task.fuel from.pc from.top.depth from.made None }
-    requires spare { 21 * (task.fuel - from.made) ≤ out.old.spare }
+    requires spare { LINE_LIMIT * (task.fuel - from.made) ≤ out.old.spare }
     ensures ran { RanOn task.entry.program.now task.entry.fuel task.entry.thread
         (going from words.old locals.old held.now out.old.items)
         (left result.0 result.1 words.new locals.new held.now out.new.items)
@@ -39,7 +40,7 @@ pub fn run_on(
     ensures run { IsRun task.entry.program.now task.entry.thread task.entry.fuel result.0.pc result.0.top.depth result.0.made (ended_by result.1) }
     ensures names_cell { NamesCell task.entry.program.now result.1 }
     ensures made { from.made ≤ result.0.made }
-    ensures spare { 21 * (task.entry.fuel - result.0.made) ≤ out.new.spare }
+    ensures spare { LINE_LIMIT * (task.entry.fuel - result.0.made) ≤ out.new.spare }
     ensures used { out.new.spare + length out.new.items ≡ out.old.spare + length out.old.items }
 {
     let mut at = from;

@@ -4,6 +4,7 @@ ghost use Rattle.stride_isa.specs.Limits.{fuel_limit, instruction_limit};
 ghost use Rattle.stride_isa.specs.Listing.{code_of, op_at};
 ghost use Rattle.stride_isa.specs.Validity.{IsFine, Reaches};
 
+use stride_isa::limits::{FUEL_LIMIT, INSTRUCTION_LIMIT};
 use stride_isa::{Checked, Op};
 
 /// A thread of a program, with its code at hand, and its fuel.
@@ -25,7 +26,7 @@ impl<'p> Task<'p> {
     pub fn new(program: &'p Checked, thread: u32, fuel: u32) -> Task<'p>
         requires thread { thread < length program.now.threads }
         requires some { 1 ≤ fuel }
-        requires limit { fuel ≤ fuel_limit }
+        requires limit { fuel ≤ FUEL_LIMIT }
         ensures program { result.program.now ≡ program.now }
         ensures thread { result.thread ≡ thread }
         ensures fuel { result.fuel ≡ fuel }
@@ -44,7 +45,7 @@ impl<'p> Task<'p> {
     pub fn op(&self, at: u32) -> Op
         requires { at < length (code_of self.now.program.now self.now.thread) }
         ensures is { result ≡ op_at self.now.program.now self.now.thread at }
-        ensures small { at < instruction_limit }
+        ensures small { at < INSTRUCTION_LIMIT }
         ensures fine { (depth : ℕ) → Reaches self.now.program.now self.now.thread at depth → IsFine self.now.program.now self.now.thread at depth }
     {
         self.program.facts();

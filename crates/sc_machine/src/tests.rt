@@ -3,9 +3,11 @@ ghost use Rattle.std.specs.Prelude.{◌≡◌, IfSome, IfOk, length};
 ghost use Rattle.stride_isa.specs.declared.decl.Shape.TheVariants.{Single};
 
 use super::*;
+use crate::limits::LINE_LIMIT;
 use std::alloc::Global;
 use std::test::Fail;
 use stride_base::List;
+use stride_isa::limits::{FUEL_LIMIT, MONITOR_LIMIT};
 use stride_isa::{Change, Checked, Decl, Name, Op, Program, Shape, check};
 
 fn variable(bytes: &[u8], start: u64) -> Option<Decl>
@@ -50,7 +52,7 @@ const READS: [Op; 3] = [Op::Read(0), Op::Print, Op::Halt];
 fn stops_are_told_and_answered(rt: HostRuntime) -> Result<(), Fail> {
     let checked = two_threads(rt.alloc(), &WRITES, &READS)?;
     let mut out = List::new(rt.alloc());
-    out.reserve(210)?;
+    out.reserve(10 * LINE_LIMIT)?;
 
     let mut writer = ThreadRun::start(&checked, 0, 10);
     let stop = writer.local(&mut out);
@@ -63,7 +65,7 @@ fn stops_are_told_and_answered(rt: HostRuntime) -> Result<(), Fail> {
     assert!(rt; writer.local(&mut out) == Stop::Ended { end: End::Halted });
 
     let mut out = List::new(rt.alloc());
-    out.reserve(210)?;
+    out.reserve(10 * LINE_LIMIT)?;
     let mut reader = ThreadRun::start(&checked, 1, 10);
     let Stop::Read { cell: 0 } = reader.local(&mut out) else {
         return Err("no read")?;
@@ -78,12 +80,16 @@ fn stops_are_told_and_answered(rt: HostRuntime) -> Result<(), Fail> {
 fn a_thread_is_given_up(rt: HostRuntime) -> Result<(), Fail> {
     let checked = two_threads(rt.alloc(), &WRITES, &READS)?;
     let mut out = List::new(rt.alloc());
-    out.reserve(210)?;
+    out.reserve(10 * LINE_LIMIT)?;
     let mut writer = ThreadRun::start(&checked, 0, 10);
     let Stop::Write { .. } = writer.local(&mut out) else {
         return Err("no write")?;
     };
-    assert!(rt; !writer.held(63) && !writer.held(64) && !writer.held(u32::MAX));
+    assert!(rt;
+        !writer.held(MONITOR_LIMIT as u32 - 1)
+            && !writer.held(MONITOR_LIMIT as u32)
+            && !writer.held(u32::MAX)
+    );
     assert!(rt; writer.give_up() == End::Stopped { pc: 1 });
     assert!(rt;
         writer.local(&mut out)
@@ -123,7 +129,7 @@ fn prints_and_ends(rt: HostRuntime) -> Result<(), Fail> {
         (907, 10, b"907\n", End::Halted),
         (
             18446744073709551615,
-            1_000_000,
+            FUEL_LIMIT,
             b"18446744073709551615\n",
             End::Halted,
         ),
@@ -133,7 +139,7 @@ fn prints_and_ends(rt: HostRuntime) -> Result<(), Fail> {
     for (word, fuel, text, end) in rows {
         let checked = two_threads(rt.alloc(), &[Op::Push(word), Op::Print, Op::Halt], &READS)?;
         let mut out = List::new(rt.alloc());
-        out.reserve(21_000_000)?;
+        out.reserve(FUEL_LIMIT as usize * LINE_LIMIT)?;
         let mut run = ThreadRun::start(&checked, 0, fuel);
         assert!(rt; run.local(&mut out) == Stop::Ended { end });
         assert!(rt; out.as_slice() == text, "at {word} with fuel {fuel}");
@@ -162,7 +168,7 @@ fn position_and_count_are_told(rt: HostRuntime) -> Result<(), Fail> {
     for (code, fuel, pc, made, ended) in rows {
         let checked = two_threads(rt.alloc(), code, &READS)?;
         let mut out = List::new(rt.alloc());
-        out.reserve(21_000_000)?;
+        out.reserve(FUEL_LIMIT as usize * LINE_LIMIT)?;
         let mut run = ThreadRun::start(&checked, 0, fuel);
         assert!(rt; run.pc() == 0 && run.made() == 0 && run.ended().is_none());
         run.local(&mut out);

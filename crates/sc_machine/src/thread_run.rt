@@ -6,6 +6,7 @@ ghost use Rattle.sc_machine.specs.declared.end.End.TheVariants.{Stopped};
 
 use crate::end::End;
 use crate::instruction::finish;
+use crate::limits::LINE_LIMIT;
 use crate::operands::Top;
 use crate::running::{Cursor, run_on};
 use crate::stop::Stop;
@@ -67,7 +68,7 @@ impl<'p> ThreadRun<'p> {
     ///
     /// At a shared instruction, and after the end, it changes nothing.
     pub fn local(&mut self, out: &mut List<u8>) -> Stop
-        requires { 21 * (self.old.fuel - self.old.made) ≤ out.old.spare }
+        requires { LINE_LIMIT * (self.old.fuel - self.old.made) ≤ out.old.spare }
         ensures state { state self.new out.new.items
             ≡ settled self.old.program self.old.fuel self.old.thread (state self.old out.old.items) }
         ensures stop { result ≡ stop_at self.new }
@@ -76,7 +77,7 @@ impl<'p> ThreadRun<'p> {
         ensures names_cell { NamesCell self.old.program result }
         ensures made { self.old.made ≤ self.new.made }
         ensures fuel_left { IsShared result → self.new.made < self.new.fuel }
-        ensures spare { 21 * (self.new.fuel - self.new.made) ≤ out.new.spare }
+        ensures spare { LINE_LIMIT * (self.new.fuel - self.new.made) ≤ out.new.spare }
         ensures used { out.new.spare + length out.new.items ≡ out.old.spare + length out.old.items }
     {
         if let Some(end) = self.ended {
