@@ -10,11 +10,11 @@ use Rattle.sc_machine.specs.declared.stop.Stop.{Stop}
 use Rattle.sc_machine.specs.declared.stop.Stop.TheVariants as stops
 use Rattle.sc_machine.specs.ThreadRun.{IsShared}
 use Rattle.sc_machine.specs.ThreadStep.{holds}
-use Rattle.interleavings.specs.declared.acts.Acts.{Acts}
-use Rattle.interleavings.specs.declared.acts.HeldTurn.{HeldTurn}
-use Rattle.interleavings.specs.declared.acts.OddLooks.{OddLooks}
-use Rattle.interleavings.specs.declared.acts.Phase.{Phase}
-use Rattle.interleavings.specs.declared.acts.Phase.TheVariants.{Idle, Loaded, Numbered, Marked, Fetched, Stored, Looked}
+use Rattle.interleavings.specs.declared.activity.Activity.{Activity}
+use Rattle.interleavings.specs.declared.activity.HeldTurn.{HeldTurn}
+use Rattle.interleavings.specs.declared.activity.OddLooks.{OddLooks}
+use Rattle.interleavings.specs.declared.activity.Phase.{Phase}
+use Rattle.interleavings.specs.declared.activity.Phase.TheVariants.{Idle, Loaded, Numbered, Marked, Fetched, Stored, Looked}
 use Rattle.interleavings.specs.declared.event.Event.{Event}
 use Rattle.interleavings.specs.AtomicStep.{held_turn, Begins, Suits, May, is_even, read_if, entered_if, finished_by, phase_if, phase_after, name_after, held_if, held_after, looked, looks_after}
 use Rattle.interleavings.specs.Driving.{at_of, value_of}
@@ -63,8 +63,8 @@ pub record IsInPlace (patience : ℕ) (stop : Stop) (flags : List Bool) (name : 
   pub patient : IsPatient patience stop looks
 
 -- the same of all that a thread has done and is doing
-abbrev pub AreInPlace : ℕ → Stop → List Bool → Acts → Type 0
-AreInPlace patience stop flags acts = IsInPlace patience stop flags acts.name acts.phase acts.held acts.looks
+abbrev pub AreInPlace : ℕ → Stop → List Bool → Activity → Type 0
+AreInPlace patience stop flags activity = IsInPlace patience stop flags activity.name activity.phase activity.held activity.looks
 
 -- a phase of the shared instruction is one in which its next step begins
 begins_next : (stop : Stop) (phase : Phase) → IsShared stop → IsPhaseAt phase stop → Begins (kind_at stop phase) (at_of stop) phase
@@ -88,35 +88,35 @@ begins_next (stops.Ended end) phase shared fits = absurd shared
 begins_next stop phase shared fits = absurd fits
 
 -- a thread with a name, which has the turn where it stands at an exit, suits its next step
-suits_next : (stop : Stop) (phase : Phase) (acts : Acts) → IsShared stop → IsPhaseAt phase stop → IsSome acts.name → ((monitor : ℕ) → stop ≡ stops.Exit monitor → IsSome (held_turn monitor acts.held)) → Suits (kind_at stop phase) (at_of stop) acts
-suits_next (stops.Read cell) Idle acts shared fits named turn = named
-suits_next (stops.Read cell) (Loaded at value) acts shared fits named turn = tt
-suits_next (stops.Write cell value) Idle acts shared fits named turn = named
-suits_next (stops.Write cell value) (Numbered at n) acts shared fits named turn = tt
-suits_next (stops.Write cell value) (Marked at n) acts shared fits named turn = tt
-suits_next (stops.Write cell value) (Stored at n None word) acts shared fits named turn = tt
-suits_next (stops.Write cell value) (Stored at n (Some old) word) acts shared fits named turn = absurd fits.1
-suits_next (stops.Update cell change) Idle acts shared fits named turn = named
-suits_next (stops.Update cell change) (Numbered at n) acts shared fits named turn = tt
-suits_next (stops.Update cell change) (Marked at n) acts shared fits named turn = tt
-suits_next (stops.Update cell change) (Fetched at n old) acts shared fits named turn = tt
-suits_next (stops.Update cell change) (Stored at n (Some old) word) acts shared fits named turn = tt
-suits_next (stops.Update cell change) (Stored at n None word) acts shared fits named turn = absurd fits.1
-suits_next (stops.Enter monitor) Idle acts shared fits named turn = named
-suits_next (stops.Enter monitor) (Looked at count) acts shared fits named turn = tt
-suits_next (stops.Exit monitor) Idle acts shared fits named turn = turn monitor refl
-suits_next (stops.Ended end) phase acts shared fits named turn = absurd shared
-suits_next stop phase acts shared fits named turn = absurd fits
+suits_next : (stop : Stop) (phase : Phase) (activity : Activity) → IsShared stop → IsPhaseAt phase stop → IsSome activity.name → ((monitor : ℕ) → stop ≡ stops.Exit monitor → IsSome (held_turn monitor activity.held)) → Suits (kind_at stop phase) (at_of stop) activity
+suits_next (stops.Read cell) Idle activity shared fits named turn = named
+suits_next (stops.Read cell) (Loaded at value) activity shared fits named turn = tt
+suits_next (stops.Write cell value) Idle activity shared fits named turn = named
+suits_next (stops.Write cell value) (Numbered at n) activity shared fits named turn = tt
+suits_next (stops.Write cell value) (Marked at n) activity shared fits named turn = tt
+suits_next (stops.Write cell value) (Stored at n None word) activity shared fits named turn = tt
+suits_next (stops.Write cell value) (Stored at n (Some old) word) activity shared fits named turn = absurd fits.1
+suits_next (stops.Update cell change) Idle activity shared fits named turn = named
+suits_next (stops.Update cell change) (Numbered at n) activity shared fits named turn = tt
+suits_next (stops.Update cell change) (Marked at n) activity shared fits named turn = tt
+suits_next (stops.Update cell change) (Fetched at n old) activity shared fits named turn = tt
+suits_next (stops.Update cell change) (Stored at n (Some old) word) activity shared fits named turn = tt
+suits_next (stops.Update cell change) (Stored at n None word) activity shared fits named turn = absurd fits.1
+suits_next (stops.Enter monitor) Idle activity shared fits named turn = named
+suits_next (stops.Enter monitor) (Looked at count) activity shared fits named turn = tt
+suits_next (stops.Exit monitor) Idle activity shared fits named turn = turn monitor refl
+suits_next (stops.Ended end) phase activity shared fits named turn = absurd shared
+suits_next stop phase activity shared fits named turn = absurd fits
 
 -- a thread that stands at an exit holds the monitor for a turn
 pub turn_at_exit : (stop : Stop) (flags : List Bool) (held : List HeldTurn) → HoldsAtExit stop flags → HasTurns flags held → (monitor : ℕ) → stop ≡ stops.Exit monitor → IsSome (held_turn monitor held)
 turn_at_exit stop flags held there turns monitor e = turns monitor (subst (λ (x : Stop). HoldsAtExit x flags) e there)
 
 -- the next step of a thread that stands at a shared instruction may be made
-pub may_next : (patience : ℕ) (stop : Stop) (flags : List Bool) (acts : Acts) → IsShared stop → HoldsAtExit stop flags → AreInPlace patience stop flags acts → May (kind_at stop acts.phase) (at_of stop) acts
-may_next patience stop flags acts shared there before = record {
-  begins = begins_next stop acts.phase shared before.fits;
-  suits = suits_next stop acts.phase acts shared before.fits before.named (turn_at_exit stop flags acts.held there before.turns);
+pub may_next : (patience : ℕ) (stop : Stop) (flags : List Bool) (activity : Activity) → IsShared stop → HoldsAtExit stop flags → AreInPlace patience stop flags activity → May (kind_at stop activity.phase) (at_of stop) activity
+may_next patience stop flags activity shared there before = record {
+  begins = begins_next stop activity.phase shared before.fits;
+  suits = suits_next stop activity.phase activity shared before.fits before.named (turn_at_exit stop flags activity.held there before.turns);
 }
 
 -- the thread is in place after a step: where it finishes no event, at the same stop, or at an end if it gives up; where it
