@@ -32,19 +32,60 @@ abbrev pub HasUpdated : Change → Option ℕ → ℕ → Type 0
 HasUpdated change None word = ⊥
 HasUpdated change (Some old) word = applied change old ≡ word
 
+-- the thread stands at a read of this cell
+abbrev pub ReadsAt : ℕ → Stop → Type 0
+ReadsAt at (stops.Read cell) = cell ≡ at
+ReadsAt at (stops.Write cell value) = ⊥
+ReadsAt at (stops.Update cell change) = ⊥
+ReadsAt at (stops.Enter monitor) = ⊥
+ReadsAt at (stops.Exit monitor) = ⊥
+ReadsAt at (stops.Ended end) = ⊥
+
+-- at a write or an update of it
+abbrev pub ClaimsAt : ℕ → Stop → Type 0
+ClaimsAt at (stops.Read cell) = ⊥
+ClaimsAt at (stops.Write cell value) = cell ≡ at
+ClaimsAt at (stops.Update cell change) = cell ≡ at
+ClaimsAt at (stops.Enter monitor) = ⊥
+ClaimsAt at (stops.Exit monitor) = ⊥
+ClaimsAt at (stops.Ended end) = ⊥
+
+-- at an update of it
+abbrev pub UpdatesAt : ℕ → Stop → Type 0
+UpdatesAt at (stops.Read cell) = ⊥
+UpdatesAt at (stops.Write cell value) = ⊥
+UpdatesAt at (stops.Update cell change) = cell ≡ at
+UpdatesAt at (stops.Enter monitor) = ⊥
+UpdatesAt at (stops.Exit monitor) = ⊥
+UpdatesAt at (stops.Ended end) = ⊥
+
+-- at a write or an update of it that stores this word, after it loaded this old value or none
+abbrev pub StoresAt : ℕ → Option ℕ → ℕ → Stop → Type 0
+StoresAt at old word (stops.Read cell) = ⊥
+StoresAt at old word (stops.Write cell value) = (cell ≡ at) × HasWritten value old word
+StoresAt at old word (stops.Update cell change) = (cell ≡ at) × HasUpdated change old word
+StoresAt at old word (stops.Enter monitor) = ⊥
+StoresAt at old word (stops.Exit monitor) = ⊥
+StoresAt at old word (stops.Ended end) = ⊥
+
+-- at an entry into this monitor
+abbrev pub EntersMonitor : ℕ → Stop → Type 0
+EntersMonitor at (stops.Read cell) = ⊥
+EntersMonitor at (stops.Write cell value) = ⊥
+EntersMonitor at (stops.Update cell change) = ⊥
+EntersMonitor at (stops.Enter monitor) = monitor ≡ at
+EntersMonitor at (stops.Exit monitor) = ⊥
+EntersMonitor at (stops.Ended end) = ⊥
+
 -- the phase is one of the shared instruction at which the thread stands; at its end it is idle
 abbrev pub IsPhaseAt : Phase → Stop → Type 0
 IsPhaseAt Idle stop = Unit {0}
-IsPhaseAt (Loaded at value) (stops.Read cell) = cell ≡ at
-IsPhaseAt (Numbered at n) (stops.Write cell value) = cell ≡ at
-IsPhaseAt (Numbered at n) (stops.Update cell change) = cell ≡ at
-IsPhaseAt (Marked at n) (stops.Write cell value) = cell ≡ at
-IsPhaseAt (Marked at n) (stops.Update cell change) = cell ≡ at
-IsPhaseAt (Fetched at n old) (stops.Update cell change) = cell ≡ at
-IsPhaseAt (Stored at n old word) (stops.Write cell value) = (cell ≡ at) × HasWritten value old word
-IsPhaseAt (Stored at n old word) (stops.Update cell change) = (cell ≡ at) × HasUpdated change old word
-IsPhaseAt (Looked at turn) (stops.Enter monitor) = monitor ≡ at
-IsPhaseAt phase stop = ⊥
+IsPhaseAt (Loaded at value) stop = ReadsAt at stop
+IsPhaseAt (Numbered at n) stop = ClaimsAt at stop
+IsPhaseAt (Marked at n) stop = ClaimsAt at stop
+IsPhaseAt (Fetched at n old) stop = UpdatesAt at stop
+IsPhaseAt (Stored at n old word) stop = StoresAt at old word stop
+IsPhaseAt (Looked at turn) stop = EntersMonitor at stop
 
 -- each monitor whose flag is up is held for a turn
 abbrev pub HasTurns : List Bool → List HeldTurn → Type 0
@@ -52,8 +93,12 @@ HasTurns flags held = (monitor : ℕ) → holds flags monitor ≡ true → IsSom
 
 -- a thread that has not ended has looked less often in a row than the patience says
 abbrev pub IsPatient : ℕ → Stop → Option OddLooks → Type 0
+IsPatient patience (stops.Read cell) row = gives_up patience row ≡ false
+IsPatient patience (stops.Write cell value) row = gives_up patience row ≡ false
+IsPatient patience (stops.Update cell change) row = gives_up patience row ≡ false
+IsPatient patience (stops.Enter monitor) row = gives_up patience row ≡ false
+IsPatient patience (stops.Exit monitor) row = gives_up patience row ≡ false
 IsPatient patience (stops.Ended end) row = Unit {0}
-IsPatient patience stop row = gives_up patience row ≡ false
 
 -- a thread is in place: it has a name, and what it is doing fits where it stands and the flags that are up
 pub record IsInPlace (patience : ℕ) (stop : Stop) (flags : List Bool) (name : Option ℕ) (phase : Phase) (held : List HeldTurn) (looks : Option OddLooks) : Type 0 where

@@ -14,10 +14,13 @@ use Rattle.interleavings.specs.History.{put_word}
 
 -- a writer in this phase has claimed the number of the cell and not completed it
 abbrev pub Claims : ℕ → Phase → Type 0
+Claims cell Idle = ⊥
+Claims cell (Loaded at value) = ⊥
+Claims cell (Numbered at n) = ⊥
 Claims cell (Marked at n) = cell ≡ at
 Claims cell (Fetched at n old) = cell ≡ at
 Claims cell (Stored at n old value) = cell ≡ at
-Claims cell phase = ⊥
+Claims cell (Looked monitor turn) = ⊥
 
 -- an odd number is one that this step made so, or one that was odd before and that a thread which claimed it still claims
 abbrev pub IsOddFrom : ℕ → ℕ → ℕ → Phase → Phase → Type 0

@@ -118,10 +118,13 @@ module _ (X : Type 0) (seen : Drive → ℕ → X) (g : Setting) (rest : Rest) (
 
 -- how many steps a writer that has claimed has left
 abbrev steps_left : Phase → ℕ
-steps_left (Marked cell n) = 3
-steps_left (Fetched cell n old) = 2
-steps_left (Stored cell n old value) = 1
-steps_left phase = 0
+steps_left Idle = 0
+steps_left (Loaded at value) = 0
+steps_left (Numbered at n) = 0
+steps_left (Marked at n) = 3
+steps_left (Fetched at n old) = 2
+steps_left (Stored at n old value) = 1
+steps_left (Looked monitor turn) = 0
 
 -- it has at most three
 steps_left_limit : (phase : Phase) → steps_left phase ≤ 3
@@ -166,8 +169,13 @@ claims_tell cell phase claims = absurd claims
 
 -- whether a reader has its number still to load, as a number
 abbrev loads_left : Phase → ℕ
-loads_left (Loaded cell value) = 1
-loads_left phase = 0
+loads_left Idle = 0
+loads_left (Loaded at value) = 1
+loads_left (Numbered at n) = 0
+loads_left (Marked at n) = 0
+loads_left (Fetched at n old) = 0
+loads_left (Stored at n old value) = 0
+loads_left (Looked monitor turn) = 0
 
 -- it is one load at most
 loads_left_limit : (phase : Phase) → loads_left phase ≤ 1

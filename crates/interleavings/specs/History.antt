@@ -31,12 +31,40 @@ pub record State : Type 0 where
   pub words : SharedWord → ℕ
   pub people : ℕ → Person
 
+-- whether a word is the count of names
+abbrev pub is_drawn : SharedWord → Bool
+is_drawn Drawn = true
+is_drawn (Value other) = false
+is_drawn (Number other) = false
+is_drawn (Monitor other) = false
+
+-- whether it is the value of this cell
+abbrev pub is_value : ℕ → SharedWord → Bool
+is_value cell Drawn = false
+is_value cell (Value other) = cell == other
+is_value cell (Number other) = false
+is_value cell (Monitor other) = false
+
+-- whether it is the number of this cell
+abbrev pub is_number : ℕ → SharedWord → Bool
+is_number cell Drawn = false
+is_number cell (Value other) = false
+is_number cell (Number other) = cell == other
+is_number cell (Monitor other) = false
+
+-- whether it is the word of this monitor
+abbrev pub is_monitor : ℕ → SharedWord → Bool
+is_monitor monitor Drawn = false
+is_monitor monitor (Value other) = false
+is_monitor monitor (Number other) = false
+is_monitor monitor (Monitor other) = monitor == other
+
+-- whether two words are the same
 abbrev pub same_word : SharedWord → SharedWord → Bool
-same_word Drawn Drawn = true
-same_word (Value cell) (Value other) = cell == other
-same_word (Number cell) (Number other) = cell == other
-same_word (Monitor monitor) (Monitor other) = monitor == other
-same_word word other = false
+same_word Drawn other = is_drawn other
+same_word (Value cell) other = is_value cell other
+same_word (Number cell) other = is_number cell other
+same_word (Monitor monitor) other = is_monitor monitor other
 
 -- the words with another value of one of them
 abbrev pub put_word : (SharedWord → ℕ) → SharedWord → ℕ → SharedWord → ℕ
