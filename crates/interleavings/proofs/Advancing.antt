@@ -10,11 +10,11 @@ use Rattle.sc_machine.specs.StandingThread.{IsThreadOf, Standing, stop_here}
 use Rattle.sc_machine.specs.ThreadStep.{start_thread, stop_of}
 use Rattle.sc_machine.specs.ThreadRun.{IsShared, NamesCell}
 use Rattle.interleavings.specs.declared.limits.TheConstants.{STEP_LIMIT}
-use Rattle.interleavings.specs.declared.acts.Acts.{Acts}
-use Rattle.interleavings.specs.declared.acts.HeldTurn.{HeldTurn}
-use Rattle.interleavings.specs.declared.acts.OddLooks.{OddLooks}
-use Rattle.interleavings.specs.declared.acts.Phase.{Phase}
-use Rattle.interleavings.specs.declared.acts.Phase.TheVariants.{Idle, Loaded, Numbered, Marked, Fetched, Stored, Looked}
+use Rattle.interleavings.specs.declared.activity.Activity.{Activity}
+use Rattle.interleavings.specs.declared.activity.HeldTurn.{HeldTurn}
+use Rattle.interleavings.specs.declared.activity.OddLooks.{OddLooks}
+use Rattle.interleavings.specs.declared.activity.Phase.{Phase}
+use Rattle.interleavings.specs.declared.activity.Phase.TheVariants.{Idle, Loaded, Numbered, Marked, Fetched, Stored, Looked}
 use Rattle.interleavings.specs.declared.core_state.Core.{Core}
 use Rattle.interleavings.specs.declared.simulation.Simulation.{Simulation}
 use Rattle.interleavings.specs.declared.event.Event.{Event}
@@ -25,7 +25,7 @@ use Rattle.interleavings.specs.SimulationShows.{IsReached, Shows, SuitsStop, gon
 use Rattle.interleavings.specs.History.{State, Step, happens, after}
 use Rattle.interleavings.specs.declared.layout.Layout.{Layout}
 use Rattle.interleavings.specs.Layout.{IsInRow, row_length}
-use Rattle.interleavings.specs.Recording.{Setting, state_of, acts_of}
+use Rattle.interleavings.specs.Recording.{Setting, state_of, activity_of}
 use Rattle.interleavings.specs.Driving.{Drive, thread_of, next_step, at_of, finished_in, thread_after, stepped, stepped_if, advance}
 use Rattle.interleavings.proofs.Advances.{IsRun}
 use Rattle.interleavings.proofs.InPlace.{IsPhaseAt}
@@ -108,43 +108,43 @@ module _ (g : Setting) (sim : Simulation) (d : Drive) (t : ℕ) (old : Standing)
       ap (λ s. stop_of g.program t s) thread_at
       ∙ sym (ap (λ p. stop_of p old.number old.state) is_thread.program ∙ ap (λ n. stop_of g.program n old.state) is_thread.which)
 
-  pub acts_at : (acts : Acts) → acts ≡ get_or sim.core.people.items t acts → acts ≡ acts_of g d.steps t
-  acts_at acts e = e ∙ shows.state.people t acts (omega (arith, shows.people, shows.count, there))
+  pub activity_at : (activity : Activity) → activity ≡ get_or sim.core.people.items t activity → activity ≡ activity_of g d.steps t
+  activity_at activity e = e ∙ shows.state.people t activity (omega (arith, shows.people, shows.count, there))
 
   -- where no step is chosen the run stays
-  pub ended_shown : (acts : Acts) (stop : Stop) → acts ≡ get_or sim.core.people.items t acts → stop ≡ stop_here old → None ≡ next_step t stop acts.phase → Shows g sim (advance g t d)
+  pub ended_shown : (activity : Activity) (stop : Stop) → activity ≡ get_or sim.core.people.items t activity → stop ≡ stop_here old → None ≡ next_step t stop activity.phase → Shows g sim (advance g t d)
   unfolding advance
-  ended_shown acts stop of_t is none = subst (λ (k : Drive). Shows g sim k) (sym (ap (λ s. stepped_if g (next_step t s (acts_of g d.steps t).phase) d) (stop_at ∙ sym is) ∙ ap (λ (a : Acts). stepped_if g (next_step t stop a.phase) d) (sym (acts_at acts of_t)) ∙ ap (λ o. stepped_if g o d) (sym none))) shows
+  ended_shown activity stop of_t is none = subst (λ (k : Drive). Shows g sim k) (sym (ap (λ s. stepped_if g (next_step t s (activity_of g d.steps t).phase) d) (stop_at ∙ sym is) ∙ ap (λ (a : Activity). stepped_if g (next_step t stop a.phase) d) (sym (activity_at activity of_t)) ∙ ap (λ o. stepped_if g o d) (sym none))) shows
 
-  pub may_happen : (acts : Acts) (stop : Stop) (step : AtomicStep) → acts ≡ get_or sim.core.people.items t acts → NamesCell old.program stop → Some (step_seen step) ≡ next_step t stop acts.phase → length d.steps + 1 ≤ STEP_LIMIT → CanHappen sim.core step
-  may_happen acts stop step of_t names chosen few =
-      let seen = (chosen_tells t stop acts.phase (step_seen step) chosen).1 in
+  pub may_happen : (activity : Activity) (stop : Stop) (step : AtomicStep) → activity ≡ get_or sim.core.people.items t activity → NamesCell old.program stop → Some (step_seen step) ≡ next_step t stop activity.phase → length d.steps + 1 ≤ STEP_LIMIT → CanHappen sim.core step
+  may_happen activity stop step of_t names chosen few =
+      let seen = (chosen_tells t stop activity.phase (step_seen step) chosen).1 in
       record {
         whole = shows.whole;
         who = omega (arith, ap (λ (s : Step). s.who) seen, shows.people, shows.count, there);
         inside = subst (λ (s : Step). IsInRow sim.core.layout.cells sim.core.layout.monitors (word_of s.kind s.at)) (sym seen)
-            (subst (λ (n : ℕ). IsInRow sim.core.layout.cells n (word_of (kind_at stop acts.phase) (at_of stop))) (sym shows.monitors)
-            (subst (λ (n : ℕ). IsInRow n (length g.program.monitors) (word_of (kind_at stop acts.phase) (at_of stop))) (sym shows.cells)
-            (named_inside g.program stop acts.phase (subst (λ (p : Listing). NamesCell p stop) is_thread.program names))));
+            (subst (λ (n : ℕ). IsInRow sim.core.layout.cells n (word_of (kind_at stop activity.phase) (at_of stop))) (sym shows.monitors)
+            (subst (λ (n : ℕ). IsInRow n (length g.program.monitors) (word_of (kind_at stop activity.phase) (at_of stop))) (sym shows.cells)
+            (named_inside g.program stop activity.phase (subst (λ (p : Listing). NamesCell p stop) is_thread.program names))));
         state = state_of g d.steps;
         shows = shows.state;
         within = state_wider (state_of g d.steps) (length d.steps) STEP_LIMIT (omega arith) (after_within (starts_of g.program.decls) d.steps);
       }
 
   -- the step that is chosen finishes what the thread's instruction takes
-  pub may_go_on : (acts : Acts) (stop : Stop) (step : AtomicStep) (finished : Option Event) → IsReached g d → acts ≡ get_or sim.core.people.items t acts → stop ≡ stop_here old → Some (step_seen step) ≡ next_step t stop acts.phase → finished ≡ finished_in (state_of g d.steps) (step_seen step) → SuitsStop (stop_here old) finished
-  may_go_on acts stop step finished reached of_t stands chosen is =
-      let told = chosen_tells t stop acts.phase (step_seen step) chosen in
-      let a = acts_of g d.steps t in
+  pub may_go_on : (activity : Activity) (stop : Stop) (step : AtomicStep) (finished : Option Event) → IsReached g d → activity ≡ get_or sim.core.people.items t activity → stop ≡ stop_here old → Some (step_seen step) ≡ next_step t stop activity.phase → finished ≡ finished_in (state_of g d.steps) (step_seen step) → SuitsStop (stop_here old) finished
+  may_go_on activity stop step finished reached of_t stands chosen is =
+      let told = chosen_tells t stop activity.phase (step_seen step) chosen in
+      let a = activity_of g d.steps t in
       let here : stop_of g.program t (thread_of d t) ≡ stop = stop_at ∙ sym stands in
       let run : IsRun g d = reached-run g d reached in
       let fits : IsPhaseAt a.phase stop = subst (λ (x : Stop). IsPhaseAt a.phase x) here (run.in_place t (omega (arith, there, shows.count))).fits in
-      let next : step_seen step ≡ step_at t stop a.phase = told.1 ∙ ap (λ (x : Acts). step_at t stop x.phase) (acts_at acts of_t) in
+      let next : step_seen step ≡ step_at t stop a.phase = told.1 ∙ ap (λ (x : Activity). step_at t stop x.phase) (activity_at activity of_t) in
       subst (λ (x : Stop). SuitsStop x finished) stands
       (subst (λ (e : Option Event). SuitsStop stop e) (sym (is ∙ ap (finished_in (state_of g d.steps)) next))
       (step_suits stop a.name a.phase a.events a.held a.looks _ told.0 fits))
 
-  module _ (acts acts' : Acts) (stop : Stop) (step : AtomicStep) (core' : Core) (finished : Option Event) (new : Standing) where
+  module _ (activity activity' : Activity) (stop : Stop) (step : AtomicStep) (core' : Core) (finished : Option Event) (new : Standing) where
     abbrev sim' : Simulation
     sim' = record { program = sim.program; fuel = sim.fuel; patience = sim.patience; threads = with_item sim.threads t new; core = core' }
 
@@ -153,24 +153,24 @@ module _ (g : Setting) (sim : Simulation) (d : Drive) (t : ℕ) (old : Standing)
     st = state_of g d.steps
 
     abbrev next : Step
-    next = step_at t stop (acts_of g d.steps t).phase
+    next = step_at t stop (activity_of g d.steps t).phase
 
-    seen_next : acts ≡ get_or sim.core.people.items t acts → Some (step_seen step) ≡ next_step t stop acts.phase → step_seen step ≡ next
-    seen_next of_t chosen = (chosen_tells t stop acts.phase (step_seen step) chosen).1 ∙ ap (λ (a : Acts). step_at t stop a.phase) (acts_at acts of_t)
+    seen_next : activity ≡ get_or sim.core.people.items t activity → Some (step_seen step) ≡ next_step t stop activity.phase → step_seen step ≡ next
+    seen_next of_t chosen = (chosen_tells t stop activity.phase (step_seen step) chosen).1 ∙ ap (λ (a : Activity). step_at t stop a.phase) (activity_at activity of_t)
 
-    went_thread : finished ≡ finished_in st next → acts'.looks ≡ (acts_of g (next ∷ d.steps) t).looks → new ≡ gone_on old finished sim.patience acts'.looks → new.state ≡ thread_after g t (finished_in st next) (acts_of g (next ∷ d.steps) t).looks (thread_of d t)
+    went_thread : finished ≡ finished_in st next → activity'.looks ≡ (activity_of g (next ∷ d.steps) t).looks → new ≡ gone_on old finished sim.patience activity'.looks → new.state ≡ thread_after g t (finished_in st next) (activity_of g (next ∷ d.steps) t).looks (thread_of d t)
     went_thread finished_is looks_is goes =
         ap (λ (s : Standing). s.state) goes
-        ∙ ap (λ p. thread_after (record { program = p; fuel = old.fuel; patience = sim.patience }) old.number finished acts'.looks old.state) is_thread.program
-        ∙ ap (λ f. thread_after (record { program = g.program; fuel = f; patience = sim.patience }) old.number finished acts'.looks old.state) is_thread.fuel_is
-        ∙ ap (λ n. thread_after (record { program = g.program; fuel = g.fuel; patience = n }) old.number finished acts'.looks old.state) shows.patience
-        ∙ ap (λ k. thread_after g k finished acts'.looks old.state) is_thread.which
-        ∙ ap (λ f. thread_after g t f acts'.looks old.state) finished_is
+        ∙ ap (λ p. thread_after (record { program = p; fuel = old.fuel; patience = sim.patience }) old.number finished activity'.looks old.state) is_thread.program
+        ∙ ap (λ f. thread_after (record { program = g.program; fuel = f; patience = sim.patience }) old.number finished activity'.looks old.state) is_thread.fuel_is
+        ∙ ap (λ n. thread_after (record { program = g.program; fuel = g.fuel; patience = n }) old.number finished activity'.looks old.state) shows.patience
+        ∙ ap (λ k. thread_after g k finished activity'.looks old.state) is_thread.which
+        ∙ ap (λ f. thread_after g t f activity'.looks old.state) finished_is
         ∙ ap (λ row. thread_after g t (finished_in st next) row old.state) looks_is
-        ∙ ap (thread_after g t (finished_in st next) (acts_of g (next ∷ d.steps) t).looks) (sym thread_at)
+        ∙ ap (thread_after g t (finished_in st next) (activity_of g (next ∷ d.steps) t).looks) (sym thread_at)
 
     -- it is the same thread
-    new_thread : new ≡ gone_on old finished sim.patience acts'.looks → IsThreadOf g.program g.fuel t new
+    new_thread : new ≡ gone_on old finished sim.patience activity'.looks → IsThreadOf g.program g.fuel t new
     new_thread goes = record {
       program = ap (λ (s : Standing). s.program) goes ∙ is_thread.program;
       fuel_is = ap (λ (s : Standing). s.fuel) goes ∙ is_thread.fuel_is;
@@ -188,7 +188,7 @@ module _ (g : Setting) (sim : Simulation) (d : Drive) (t : ℕ) (old : Standing)
           subst (λ (q : Standing). IsThreadOf g.program g.fuel k q) (sym away) (shows.each k r (omega (arith, length-set sim.threads.items t new)))
     ]
 
-    shape_shown : ShowsState core' (state_of g (next ∷ d.steps)) → HasSameShape sim.core core' → IsThreadOf g.program g.fuel t new → new.state ≡ thread_after g t (finished_in st next) (acts_of g (next ∷ d.steps) t).looks (thread_of d t) → Shows g sim' (stepped g next d)
+    shape_shown : ShowsState core' (state_of g (next ∷ d.steps)) → HasSameShape sim.core core' → IsThreadOf g.program g.fuel t new → new.state ≡ thread_after g t (finished_in st next) (activity_of g (next ∷ d.steps) t).looks (thread_of d t) → Shows g sim' (stepped g next d)
     shape_shown shown shape is thread = record {
       program = shows.program;
       fuel = shows.fuel;
@@ -196,7 +196,7 @@ module _ (g : Setting) (sim : Simulation) (d : Drive) (t : ℕ) (old : Standing)
       few = shows.few;
       count = length-set sim.threads.items t new ∙ shows.count;
       each = each_thread is;
-      threads = ap (λ threads. set threads t (thread_after g t (finished_in st next) (acts_of g (next ∷ d.steps) t).looks (thread_of d t))) shows.threads
+      threads = ap (λ threads. set threads t (thread_after g t (finished_in st next) (activity_of g (next ∷ d.steps) t).looks (thread_of d t))) shows.threads
           ∙ ap (set (map (λ (s : Standing). s.state) sim.threads.items) t) (sym thread)
           ∙ sym (map-set (λ (s : Standing). s.state) sim.threads.items t new);
       whole = shape.words ∙ shows.whole ∙ sym (ap (λ (l : Layout). row_length l.cells l.monitors) shape.layout);
@@ -206,15 +206,15 @@ module _ (g : Setting) (sim : Simulation) (d : Drive) (t : ℕ) (old : Standing)
       state = shown;
     }
 
-    pub advanced : acts ≡ get_or sim.core.people.items t acts → stop ≡ stop_here old → Some (step_seen step) ≡ next_step t stop acts.phase → HasSameShape sim.core core' → ShowsState core' (happens (step_seen step) st) → finished ≡ finished_in st (step_seen step) → acts' ≡ get_or core'.people.items t acts' → new ≡ gone_on old finished sim.patience acts'.looks → Shows g sim' (advance g t d)
+    pub advanced : activity ≡ get_or sim.core.people.items t activity → stop ≡ stop_here old → Some (step_seen step) ≡ next_step t stop activity.phase → HasSameShape sim.core core' → ShowsState core' (happens (step_seen step) st) → finished ≡ finished_in st (step_seen step) → activity' ≡ get_or core'.people.items t activity' → new ≡ gone_on old finished sim.patience activity'.looks → Shows g sim' (advance g t d)
     unfolding advance after
     advanced of_t stands seen shape state finished_is of_t' goes =
         let same : step_seen step ≡ next = seen_next of_t seen in
         let state' : ShowsState core' (state_of g (next ∷ d.steps)) = subst (λ (s : Step). ShowsState core' (happens s st)) same state in
-        let looks : acts'.looks ≡ (acts_of g (next ∷ d.steps) t).looks = ap (λ (a : Acts). a.looks) (of_t' ∙ state'.people t acts' (omega (arith, shape.people, shows.people, shows.count, there))) in
+        let looks : activity'.looks ≡ (activity_of g (next ∷ d.steps) t).looks = ap (λ (a : Activity). a.looks) (of_t' ∙ state'.people t activity' (omega (arith, shape.people, shows.people, shows.count, there))) in
         let thread = went_thread (finished_is ∙ ap (finished_in st) same) looks goes in
-        let shared = (chosen_tells t stop acts.phase (step_seen step) seen).0 in
-        subst (λ (k : Drive). Shows g sim' k) (sym (ap (λ s. stepped_if g (next_step t s (acts_of g d.steps t).phase) d) (stop_at ∙ sym stands) ∙ ap (λ o. stepped_if g o d) (chosen t stop (acts_of g d.steps t).phase shared))) (shape_shown state' shape (new_thread goes) thread)
+        let shared = (chosen_tells t stop activity.phase (step_seen step) seen).0 in
+        subst (λ (k : Drive). Shows g sim' k) (sym (ap (λ s. stepped_if g (next_step t s (activity_of g d.steps t).phase) d) (stop_at ∙ sym stands) ∙ ap (λ o. stepped_if g o d) (chosen t stop (activity_of g d.steps t).phase shared))) (shape_shown state' shape (new_thread goes) thread)
 
 -- two readings of one thread
 pub same_thread : (threads : List Standing) (t : ℕ) (one other : Standing) → t < length threads → one ≡ get_or threads t one → other ≡ get_or threads t other → one ≡ other

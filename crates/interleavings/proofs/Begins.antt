@@ -11,7 +11,7 @@ use Rattle.interleavings.specs.declared.core_state.Core.{Core}
 use Rattle.interleavings.specs.declared.simulation.Simulation.{Simulation}
 use Rattle.interleavings.specs.declared.kind.Kind.TheVariants as by
 use Rattle.interleavings.specs.declared.layout.Layout.{Layout}
-use Rattle.interleavings.specs.AtomicStep.{SharedWord, Value}
+use Rattle.interleavings.specs.AtomicStep.{SharedWord, Drawn, Value, Number, Monitor}
 use Rattle.interleavings.specs.CoreShows.{ShowsState, HasSameShape, CanHappen}
 use Rattle.interleavings.specs.SimulationShows.{CanDraw, IsStartCore, Shows}
 use Rattle.interleavings.specs.History.{Step, State, after, happens}
@@ -23,8 +23,10 @@ use Rattle.interleavings.proofs.Within.{after_within, state_wider}
 
 -- the words of which the first n cells have their starting values
 abbrev pub first_words : ℕ → List ℕ → SharedWord → ℕ
+first_words n starts Drawn = 0
 first_words n starts (Value cell) = if nat_lt cell n then slice_index starts cell else 0
-first_words n starts word = 0
+first_words n starts (Number cell) = 0
+first_words n starts (Monitor monitor) = 0
 
 abbrev draw : ℕ → Step
 draw who = record { who = who; kind = by.Draw; at = 0; value = 0 }

@@ -9,7 +9,7 @@ use Rattle.stride_isa.specs.Listing.{cell_count}
 use Rattle.sc_machine.specs.StandingThread.{Standing}
 use Rattle.sc_machine.specs.ThreadStep.{Thread, end_of}
 use Rattle.sc_machine.specs.Schedule.{stopped, thread_numbers}
-use Rattle.interleavings.specs.declared.acts.Acts.{Acts}
+use Rattle.interleavings.specs.declared.activity.Activity.{Activity}
 use Rattle.interleavings.specs.declared.driven.Driven.{Driven}
 use Rattle.interleavings.specs.declared.simulation.Simulation.{Simulation}
 use Rattle.interleavings.specs.declared.event.LogEntry.{LogEntry}
@@ -19,7 +19,7 @@ use Rattle.interleavings.specs.Driving.{Drive, advance_all, begun, driven, recor
 use Rattle.interleavings.specs.SimulationShows.{CanGo, Makes, Shows}
 use Rattle.interleavings.specs.Events.{log_of}
 use Rattle.interleavings.specs.Layout.{index_of}
-use Rattle.interleavings.specs.Recording.{Recording, Setting, acts_of, state_of}
+use Rattle.interleavings.specs.Recording.{Recording, Setting, activity_of, state_of}
 use Rattle.stride_isa.specs.Limits.{fuel_limit}
 use Rattle.stride_base.specs.declared.limits.TheConstants.{ORDER_LIMIT}
 use Rattle.interleavings.specs.Driving.{Drive, advance_all, begun, driven, recording_of, settle_all, stranger, whole_run}
@@ -58,17 +58,17 @@ ends_kept [] = refl
 ends_kept (s ∷ ss) = ap (λ xs. end_of s.state ∷ xs) (ends_kept ss)
 
 -- the four parts of a recording
-pub recorded_parts : (g : Setting) (sim : Simulation) (d : Drive) (r : Driven) → Shows g sim d → map (λ (log : Listed LogEntry). log.items) r.logs.items ≡ map (λ (acts : Acts). log_of acts.events) sim.core.people.items → map (λ (output : Listed ℕ). output.items) r.outputs.items ≡ map (λ (s : Standing). s.state.out) sim.threads.items → r.ends.items ≡ map (λ (s : Standing). end_of s.state) sim.threads.items → r.last_values.items ≡ map (λ cell. slice_index sim.core.words.items (index_of sim.core.layout.cells (Value cell))) (range_with_len 0 sim.core.layout.cells) → recording_seen r ≡ recording_of g (record { steps = d.steps; threads = map stopped d.threads })
+pub recorded_parts : (g : Setting) (sim : Simulation) (d : Drive) (r : Driven) → Shows g sim d → map (λ (log : Listed LogEntry). log.items) r.logs.items ≡ map (λ (activity : Activity). log_of activity.events) sim.core.people.items → map (λ (output : Listed ℕ). output.items) r.outputs.items ≡ map (λ (s : Standing). s.state.out) sim.threads.items → r.ends.items ≡ map (λ (s : Standing). end_of s.state) sim.threads.items → r.last_values.items ≡ map (λ cell. slice_index sim.core.words.items (index_of sim.core.layout.cells (Value cell))) (range_with_len 0 sim.core.layout.cells) → recording_seen r ≡ recording_of g (record { steps = d.steps; threads = map stopped d.threads })
 unfolding recording_of
 recorded_parts g sim d r shows logs outputs ends values =
-    let people : List Acts = sim.core.people.items in
-    let acts : ℕ → Acts = acts_of g d.steps in
+    let people : List Activity = sim.core.people.items in
+    let activity : ℕ → Activity = activity_of g d.steps in
     let words : SharedWord → ℕ = (state_of g d.steps).words in
-    let logs_are : map (λ (log : Listed LogEntry). log.items) r.logs.items ≡ map (λ t. log_of (acts t).events) (thread_numbers g.program) =
+    let logs_are : map (λ (log : Listed LogEntry). log.items) r.logs.items ≡ map (λ t. log_of (activity t).events) (thread_numbers g.program) =
     logs
-    ∙ by_index (λ (a : Acts). log_of a.events) (λ t. log_of (acts t).events) people 0
-    (λ k e lt. let same : k ≡ 0 + k = omega arith in ap (λ (a : Acts). log_of a.events) (shows.state.people k e lt) ∙ ap (λ n. log_of (acts n).events) same)
-    ∙ ap (λ n. map (λ t. log_of (acts t).events) (range_with_len 0 n)) shows.people in
+    ∙ by_index (λ (a : Activity). log_of a.events) (λ t. log_of (activity t).events) people 0
+    (λ k e lt. let same : k ≡ 0 + k = omega arith in ap (λ (a : Activity). log_of a.events) (shows.state.people k e lt) ∙ ap (λ n. log_of (activity n).events) same)
+    ∙ ap (λ n. map (λ t. log_of (activity t).events) (range_with_len 0 n)) shows.people in
     let outputs_are : map (λ (output : Listed ℕ). output.items) r.outputs.items ≡ map (λ (s : Thread). s.out) (map stopped d.threads) =
     outputs ∙ outputs_kept sim.threads.items ∙ ap (λ ts. map (λ (s : Thread). s.out) (map stopped ts)) (sym shows.threads) in
     let ends_are : r.ends.items ≡ map end_of (map stopped d.threads) = ends ∙ ends_kept sim.threads.items ∙ ap (λ ts. map end_of (map stopped ts)) (sym shows.threads) in
@@ -77,9 +77,9 @@ recorded_parts g sim d r shows logs outputs ends values =
     ∙ in_range (λ cell. slice_index sim.core.words.items (index_of sim.core.layout.cells (Value cell))) (λ cell. words (Value cell)) 0 sim.core.layout.cells (λ k lt. shows.state.words (Value k) (omega arith))
     ∙ ap (λ n. map (λ cell. words (Value cell)) (range_with_len 0 n)) shows.cells in
     ap (λ x. record { logs = x; outputs = map (λ (output : Listed ℕ). output.items) r.outputs.items; ends = r.ends.items; last_values = r.last_values.items }) logs_are
-    ∙ ap (λ x. record { logs = map (λ t. log_of (acts t).events) (thread_numbers g.program); outputs = x; ends = r.ends.items; last_values = r.last_values.items }) outputs_are
-    ∙ ap (λ x. record { logs = map (λ t. log_of (acts t).events) (thread_numbers g.program); outputs = map (λ (s : Thread). s.out) (map stopped d.threads); ends = x; last_values = r.last_values.items }) ends_are
-    ∙ ap (λ x. record { logs = map (λ t. log_of (acts t).events) (thread_numbers g.program); outputs = map (λ (s : Thread). s.out) (map stopped d.threads); ends = map end_of (map stopped d.threads); last_values = x }) values_are
+    ∙ ap (λ x. record { logs = map (λ t. log_of (activity t).events) (thread_numbers g.program); outputs = x; ends = r.ends.items; last_values = r.last_values.items }) outputs_are
+    ∙ ap (λ x. record { logs = map (λ t. log_of (activity t).events) (thread_numbers g.program); outputs = map (λ (s : Thread). s.out) (map stopped d.threads); ends = x; last_values = r.last_values.items }) ends_are
+    ∙ ap (λ x. record { logs = map (λ t. log_of (activity t).events) (thread_numbers g.program); outputs = map (λ (s : Thread). s.out) (map stopped d.threads); ends = map end_of (map stopped d.threads); last_values = x }) values_are
 
 -- what the whole of a recording's code came to
 module _ (g : Setting) (order : List ℕ) (start followed settled : Simulation) (begins : Shows g start (begun g)) where

@@ -10,8 +10,8 @@ use Rattle.sc_machine.specs.declared.end.End.{End}
 use Rattle.sc_machine.specs.declared.end.End.TheVariants.{Halted, Trapped, Stopped}
 use Rattle.sc_machine.specs.declared.trap.Trap.TheVariants.{DivZero}
 use Rattle.sc_machine.specs.ThreadStep.{local_steps, settled}
-use Rattle.interleavings.specs.declared.acts.Phase.TheVariants.{Idle, Loaded}
-use Rattle.interleavings.specs.declared.acts.Tally.{Tally}
+use Rattle.interleavings.specs.declared.activity.Phase.TheVariants.{Idle, Loaded}
+use Rattle.interleavings.specs.declared.activity.Tally.{Tally}
 use Rattle.interleavings.specs.declared.event.Event.TheVariants as events
 use Rattle.interleavings.specs.declared.event.LogEntry.{LogEntry}
 use Rattle.interleavings.specs.declared.event.LogEntry.TheVariants.{Read, Write, Update, Enter}
@@ -19,7 +19,7 @@ use Rattle.interleavings.specs.declared.kind.Kind.{Kind}
 use Rattle.interleavings.specs.declared.kind.Kind.TheVariants as by
 use Rattle.interleavings.specs.Events.{bound_of, entered_by, left_by, read_of, write_of}
 use Rattle.interleavings.specs.History.{Person, after, greatest_seen, newcomer}
-use Rattle.interleavings.specs.Recording.{Setting, state_of, acts_of, IsEndAfter, IsRecording}
+use Rattle.interleavings.specs.Recording.{Setting, state_of, activity_of, IsEndAfter, IsRecording}
 use Rattle.interleavings.specs.Driving.{advance, advance_all, begun, driven, finished_within, recording_of, settle_all, stranger, whole_run}
 use Rattle.interleavings.proofs.FollowsLogs.{driven-followed}
 use Rattle.interleavings.proofs.MachineLaws.{MachineLaws}
@@ -145,7 +145,7 @@ unfolding digits after local_steps settled advance advance_all finished_within b
 lost_claim = refl
 
 -- a writer that has lost its claim is idle
-after_a_lost_claim : (person_of two_writers (0 ∷ 1 ∷ 1 ∷ 0 ∷ []) 0).acts.phase ≡ Idle
+after_a_lost_claim : (person_of two_writers (0 ∷ 1 ∷ 1 ∷ 0 ∷ []) 0).activity.phase ≡ Idle
 unfolding digits after local_steps settled advance advance_all finished_within begun driven recording_of settle_all whole_run
 after_a_lost_claim = refl
 
@@ -165,12 +165,12 @@ unfolding digits after local_steps settled advance advance_all finished_within b
 leaves_both = refl
 
 -- it holds none then, and has left the inner one first
-left_both : (person_of nested (0 ∷ 0 ∷ 0 ∷ 0 ∷ 0 ∷ 0 ∷ []) 0).acts ≡ record { name = Some 0; phase = Idle; events = events.Enter 0 1 ∷ events.Enter 1 1 ∷ events.Exit 1 1 ∷ events.Exit 0 1 ∷ []; held = []; looks = None }
+left_both : (person_of nested (0 ∷ 0 ∷ 0 ∷ 0 ∷ 0 ∷ 0 ∷ []) 0).activity ≡ record { name = Some 0; phase = Idle; events = events.Enter 0 1 ∷ events.Enter 1 1 ∷ events.Exit 1 1 ∷ events.Exit 0 1 ∷ []; held = []; looks = None }
 unfolding digits after local_steps settled advance advance_all finished_within begun driven recording_of settle_all whole_run
 left_both = refl
 
 -- an exchange of a monitor that fails is no odd look
-failed_entry : (person_after_order 1 one_monitor (0 ∷ 1 ∷ 1 ∷ 0 ∷ []) 0).acts ≡ record { name = Some 0; phase = Idle; events = []; held = []; looks = None }
+failed_entry : (person_after_order 1 one_monitor (0 ∷ 1 ∷ 1 ∷ 0 ∷ []) 0).activity ≡ record { name = Some 0; phase = Idle; events = []; held = []; looks = None }
 unfolding digits after local_steps settled advance advance_all finished_within begun driven recording_of settle_all whole_run
 failed_entry = refl
 
@@ -185,7 +185,7 @@ unfolding digits after local_steps settled advance advance_all finished_within b
 gives_up_at_once = refl
 
 -- an even look ends a row of odd ones
-row_ends : (person_of one_monitor (1 ∷ 1 ∷ 0 ∷ 1 ∷ 0 ∷ []) 0).acts.looks ≡ None
+row_ends : (person_of one_monitor (1 ∷ 1 ∷ 0 ∷ 1 ∷ 0 ∷ []) 0).activity.looks ≡ None
 unfolding digits after local_steps settled advance advance_all finished_within begun driven recording_of settle_all whole_run
 row_ends = refl
 
@@ -211,7 +211,7 @@ writer_puts = refl
 
 -- a reader that met an odd number has made one step more, and has seen no number
 reader_met_odd : person_of reader_and_writer (1 ∷ 1 ∷ 1 ∷ 0 ∷ 0 ∷ []) 0 ≡ record {
-  acts = record { name = Some 0; phase = Loaded 0 7; events = []; held = []; looks = None };
+  activity = record { name = Some 0; phase = Loaded 0 7; events = []; held = []; looks = None };
   tally = last_step 3 by.NumberLoad 0 1;
   seen = [];
 }
@@ -220,7 +220,7 @@ reader_met_odd = refl
 
 -- its writer, which completes, has seen its own number
 writer_completes : person_of reader_and_writer (1 ∷ 1 ∷ 1 ∷ 0 ∷ 0 ∷ 1 ∷ []) 1 ≡ record {
-  acts = record { name = Some 1; phase = Idle; events = events.Write 0 7 1 ∷ []; held = []; looks = None };
+  activity = record { name = Some 1; phase = Idle; events = events.Write 0 7 1 ∷ []; held = []; looks = None };
   tally = last_step 5 by.Complete 0 0;
   seen = record { cell = 0; number = 1 } ∷ [];
 }
@@ -229,7 +229,7 @@ writer_completes = refl
 
 -- the reader has seen it once the number is even
 reader_met_even : person_of reader_and_writer (1 ∷ 1 ∷ 1 ∷ 0 ∷ 0 ∷ 1 ∷ 0 ∷ []) 0 ≡ record {
-  acts = record { name = Some 0; phase = Idle; events = events.Read 0 7 1 ∷ []; held = []; looks = None };
+  activity = record { name = Some 0; phase = Idle; events = events.Read 0 7 1 ∷ []; held = []; looks = None };
   tally = last_step 4 by.NumberLoad 0 2;
   seen = record { cell = 0; number = 1 } ∷ [];
 }
@@ -279,7 +279,7 @@ abbrev given_up : List ℕ
 given_up = 1 ∷ 1 ∷ 0 ∷ 0 ∷ 1 ∷ []
 
 -- their ends are those that a recording has
-given_up_ends : (t : ℕ) (end : End) → slice_get (Stopped 0 ∷ Halted ∷ []) t ≡ Some end → IsEndAfter (setting 2 one_monitor) t (acts_of (setting 2 one_monitor) (whole_run (setting 2 one_monitor) given_up).steps t).looks end
+given_up_ends : (t : ℕ) (end : End) → slice_get (Stopped 0 ∷ Halted ∷ []) t ≡ Some end → IsEndAfter (setting 2 one_monitor) t (activity_of (setting 2 one_monitor) (whole_run (setting 2 one_monitor) given_up).steps t).looks end
 unfolding digits after local_steps settled advance advance_all finished_within begun driven recording_of settle_all whole_run
 given_up_ends zero end e = subst (λ (x : End). IsEndAfter (setting 2 one_monitor) 0 (Some (record { mon = 0; count = 2 })) x) (some_same (Stopped 0) end e) (refl, refl)
 given_up_ends (suc zero) end e = subst (λ (x : End). IsEndAfter (setting 2 one_monitor) 1 None x) (some_same Halted end e) refl

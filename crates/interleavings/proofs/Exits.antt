@@ -9,12 +9,12 @@ use Rattle.sc_machine.specs.declared.stop.Stop.{Stop}
 use Rattle.sc_machine.specs.declared.stop.Stop.TheVariants as stops
 use Rattle.sc_machine.specs.ThreadStep.{Thread, Row, start_thread, row, holds, now_unless, settled, stop_in, stop_of}
 use Rattle.sc_machine.specs.ThreadRun.{IsShared}
-use Rattle.interleavings.specs.declared.acts.HeldTurn.{HeldTurn}
+use Rattle.interleavings.specs.declared.activity.HeldTurn.{HeldTurn}
 use Rattle.interleavings.specs.Following.{no_turns}
 use Rattle.interleavings.specs.declared.event.Event.{Event}
 use Rattle.interleavings.specs.declared.event.Event.TheVariants as events
 use Rattle.interleavings.specs.AtomicStep.{held_turn, turn_or_zero}
-use Rattle.interleavings.specs.Recording.{Setting, acts_of}
+use Rattle.interleavings.specs.Recording.{Setting, activity_of}
 use Rattle.interleavings.specs.Driving.{Drive, thread_of, next_step, stepped_if, advance}
 use Rattle.interleavings.specs.Walking.{is_exit}
 use Rattle.interleavings.specs.EventStep.{after_event}
@@ -43,13 +43,13 @@ alive_at_exit laws g t s monitor done held e walked =
     subst (λ (x : Thread). IsAlive g.fuel x) (sym (not_given_up g t s walked.last (subst IsShared (sym e) tt) walked.stands)) alive
 
 -- by the stop
-advanced-falls : MachineLaws → (g : Setting) (t : ℕ) (stop : Stop) (d : Drive) → t < length g.program.threads → stop_of g.program t (thread_of d t) ≡ stop → is_exit stop ≡ true → IsRun g d → g.fuel - (thread_of (stepped_if g (next_step t stop (acts_of g d.steps t).phase) d) t).made < g.fuel - (thread_of d t).made
+advanced-falls : MachineLaws → (g : Setting) (t : ℕ) (stop : Stop) (d : Drive) → t < length g.program.threads → stop_of g.program t (thread_of d t) ≡ stop → is_exit stop ≡ true → IsRun g d → g.fuel - (thread_of (stepped_if g (next_step t stop (activity_of g d.steps t).phase) d) t).made < g.fuel - (thread_of d t).made
 advanced-falls laws g t (stops.Exit monitor) d there e exit run =
     let s = thread_of d t in
-    let event : Event = events.Exit monitor (turn_or_zero (held_turn monitor (acts_of g d.steps t).held)) in
-    let made : (thread_of (stepped_if g (next_step t (stops.Exit monitor) (acts_of g d.steps t).phase) d) t).made ≡ (after_event g.program g.fuel t event s).made =
+    let event : Event = events.Exit monitor (turn_or_zero (held_turn monitor (activity_of g d.steps t).held)) in
+    let made : (thread_of (stepped_if g (next_step t (stops.Exit monitor) (activity_of g d.steps t).phase) d) t).made ≡ (after_event g.program g.fuel t event s).made =
     ap (λ (x : Thread). x.made) (get_or-set_same d.threads t (after_event g.program g.fuel t event s) start_thread (omega (arith, there, run.count))) in
-    omega (arith, made, after_event-made laws g.program g.fuel t event s, exit_has_fuel g t s monitor e (alive_at_exit laws g t s monitor (acts_of g d.steps t).events (acts_of g d.steps t).held e (run.walked t there)))
+    omega (arith, made, after_event-made laws g.program g.fuel t event s, exit_has_fuel g t s monitor e (alive_at_exit laws g t s monitor (activity_of g d.steps t).events (activity_of g d.steps t).held e (run.walked t there)))
 advanced-falls laws g t stop d there e exit run = absurd (true≢false (sym exit))
 
 -- the exit leaves less of its fuel

@@ -9,7 +9,7 @@ use Rattle.sc_machine.specs.Schedule.{stopped, thread_numbers}
 use Rattle.interleavings.specs.declared.event.LogEntry.{LogEntry}
 use Rattle.interleavings.specs.Events.{log_of}
 use Rattle.interleavings.specs.Following.{Followed, no_turns, thread_before, follow, follow_all_from, follow_all}
-use Rattle.interleavings.specs.Recording.{Setting, acts_of, IsFollowed}
+use Rattle.interleavings.specs.Recording.{Setting, activity_of, IsFollowed}
 use Rattle.interleavings.specs.Driving.{Drive, thread_of, whole_run, recording_of, driven, stranger}
 use Rattle.interleavings.specs.Walking.{is_exit}
 use Rattle.interleavings.proofs.Advances.{IsRun}
@@ -20,7 +20,7 @@ use Rattle.interleavings.proofs.Walks.{walks_followed}
 
 -- what following the log of a thread of a run comes to
 abbrev pub followed_in : Setting → Drive → ℕ → Followed
-followed_in g d t = record { events = (acts_of g d.steps t).events; thread = stopped (thread_of d t) }
+followed_in g d t = record { events = (activity_of g d.steps t).events; thread = stopped (thread_of d t) }
 
 -- a thread that stands at no exit did not do so before it gave up either
 inside_last : (g : Setting) (t : ℕ) (s last : Thread) → is_exit (stop_of g.program t s) ≡ false → (s ≡ last) ⊎ ((s ≡ stopped last) × (is_exit (stop_of g.program t last) ≡ false)) → is_exit (stop_of g.program t last) ≡ false
@@ -33,13 +33,13 @@ same_end s last P (inl same) = sym (ap stopped same)
 same_end s last P (inr (same, p)) = sym (ap stopped same)
 
 -- a thread of a run that stands at no exit is followed through its events by its log
-pub thread_followed : MachineLaws → (g : Setting) (d : Drive) (t : ℕ) → t < length g.program.threads → IsRun g d → is_exit (stop_at g d t) ≡ false → follow g.program g.fuel t (log_of (acts_of g d.steps t).events) ≡ Ok (followed_in g d t)
+pub thread_followed : MachineLaws → (g : Setting) (d : Drive) (t : ℕ) → t < length g.program.threads → IsRun g d → is_exit (stop_at g d t) ≡ false → follow g.program g.fuel t (log_of (activity_of g d.steps t).events) ≡ Ok (followed_in g d t)
 unfolding follow
 thread_followed laws g d t there run inside =
     let p = g.program in
     let s = thread_of d t in
-    let done = (acts_of g d.steps t).events in
-    let w : HasWalked g t s done (acts_of g d.steps t).held = run.walked t there in
+    let done = (activity_of g d.steps t).events in
+    let w : HasWalked g t s done (activity_of g d.steps t).held = run.walked t there in
     walks_followed laws p g.fuel t (log_of done) (g.fuel + 1) [] done no_turns (settled p g.fuel t start_thread) w.last refl (start-alive laws p g.fuel t) (omega arith) (inside_last g t s w.last inside w.stands) w.walks
     ∙ ap (λ (x : Thread). Ok (record { events = done; thread = x })) (same_end s w.last _ w.stands)
 
@@ -57,9 +57,9 @@ seen_alike h g d [] = refl
 seen_alike h g d (t ∷ ns) = ap (λ rest. h (stopped (thread_of d t)) ∷ rest) (seen_alike h g d ns)
 
 -- their events are those of the run
-events_alike : (g : Setting) (d : Drive) (ns : List ℕ) → map (λ (f : Followed). f.events) (map (followed_in g d) ns) ≡ map (λ t. (acts_of g d.steps t).events) ns
+events_alike : (g : Setting) (d : Drive) (ns : List ℕ) → map (λ (f : Followed). f.events) (map (followed_in g d) ns) ≡ map (λ t. (activity_of g d.steps t).events) ns
 events_alike g d [] = refl
-events_alike g d (t ∷ ns) = ap (λ rest. (acts_of g d.steps t).events ∷ rest) (events_alike g d ns)
+events_alike g d (t ∷ ns) = ap (λ rest. (activity_of g d.steps t).events ∷ rest) (events_alike g d ns)
 
 -- what an order gives is followed through the events of its run's steps
 pub driven-followed : MachineLaws → (g : Setting) (order : List ℕ) → stranger (length g.program.threads) order ≡ None → IsFollowed g (driven g order) (whole_run g order).steps
@@ -73,7 +73,7 @@ driven-followed laws g order known =
     let threads : d.threads ≡ map (thread_of d) ts = fill_by_all (thread_of d) d.threads n start_thread run.count (λ t below. refl) in
     record {
       followed = map (followed_in g d) ts;
-      follows = each_followed g.program g.fuel (λ t. log_of (acts_of g d.steps t).events) (followed_in g d) n (λ t below. thread_followed laws g d t below run (settles.1 t below)) 0 n (omega arith);
+      follows = each_followed g.program g.fuel (λ t. log_of (activity_of g d.steps t).events) (followed_in g d) n (λ t below. thread_followed laws g d t below run (settles.1 t below)) 0 n (omega arith);
       events = events_alike g d ts;
       outputs = seen_alike (λ (s : Thread). s.out) g d ts ∙ sym (ap (λ l. map (λ (s : Thread). s.out) (map stopped l)) threads);
       ends = seen_alike end_of g d ts ∙ sym (ap (λ l. map end_of (map stopped l)) threads);

@@ -12,14 +12,14 @@ use Rattle.sc_machine.specs.declared.stop.Stop.TheVariants as stops
 use Rattle.sc_machine.specs.ThreadRun.{IsShared}
 use Rattle.sc_machine.specs.ThreadStep.{Thread, Row, row, now_unless, start_thread, stop_in, stop_of, end_of}
 use Rattle.sc_machine.specs.Schedule.{stopped}
-use Rattle.interleavings.specs.declared.acts.Acts.{Acts}
-use Rattle.interleavings.specs.declared.acts.OddLooks.{OddLooks}
-use Rattle.interleavings.specs.declared.acts.Phase.{Phase}
-use Rattle.interleavings.specs.declared.acts.Phase.TheVariants.{Loaded, Numbered, Looked}
+use Rattle.interleavings.specs.declared.activity.Activity.{Activity}
+use Rattle.interleavings.specs.declared.activity.OddLooks.{OddLooks}
+use Rattle.interleavings.specs.declared.activity.Phase.{Phase}
+use Rattle.interleavings.specs.declared.activity.Phase.TheVariants.{Loaded, Numbered, Looked}
 use Rattle.interleavings.specs.declared.event.Event.{Event}
-use Rattle.interleavings.specs.AtomicStep.{word_of, is_even, one_more, looked, looks_after, acts_after}
+use Rattle.interleavings.specs.AtomicStep.{word_of, is_even, one_more, looked, looks_after, activity_after}
 use Rattle.interleavings.specs.History.{Step}
-use Rattle.interleavings.specs.Recording.{Setting, state_of, acts_of, gives_up, GaveUpAt}
+use Rattle.interleavings.specs.Recording.{Setting, state_of, activity_of, gives_up, GaveUpAt}
 use Rattle.interleavings.specs.Driving.{Drive, read_kind, write_kind, update_kind, at_of, thread_of, next_step, finished_in, thread_after, stepped, stepped_if, advance, advance_all, begun, driven, recording_of, stranger, whole_run}
 use Rattle.interleavings.proofs.Advances.{IsRun, advance-run, fits_stop}
 use Rattle.interleavings.proofs.Beginning.{begun-run, begun-calm}
@@ -42,7 +42,7 @@ IsStoppedIf g t looks s = gives_up g.patience looks ≡ true → IsStoppedAt g t
 
 -- each thread of the run
 abbrev AreStopped : Setting → Drive → Type 0
-AreStopped g d = (t : ℕ) → t < length g.program.threads → IsStoppedIf g t (acts_of g d.steps t).looks (thread_of d t)
+AreStopped g d = (t : ℕ) → t < length g.program.threads → IsStoppedIf g t (activity_of g d.steps t).looks (thread_of d t)
 
 -- a thread at a shared instruction has not ended
 not_ended : (ended : Option End) (r : Row) → IsShared (stop_in (now_unless ended r)) → ended ≡ None
@@ -98,10 +98,10 @@ step-gave_up g t pc (stops.Exit monitor) phase odd met shared enters calm gives 
 step-gave_up g t pc (stops.Ended end) phase odd met shared enters calm gives some = absurd shared
 
 -- after its own step, by what that finished
-after-stopped : (g : Setting) (t : ℕ) (stop : Stop) (s : Thread) (acts : Acts) (finished : Option Event) → s.ended ≡ None → IsInPlaceAfter g.patience stop s.held acts.name acts.phase acts.held acts.looks finished → (gives_up g.patience acts.looks ≡ true → 1 ≤ g.patience → GaveUpAt g t acts.looks s.pc) → IsStoppedIf g t acts.looks (thread_after g t finished acts.looks s)
-after-stopped g t stop s acts (Some event) open_yet after_step gave_up = λ gives. absurd (true≢false (sym gives ∙ (after_step (stops.Read 0)).patient))
-after-stopped g t stop s acts None open_yet after_step gave_up = λ gives.
-    cond_both (gives_up g.patience acts.looks) (stopped s) s (λ x. IsStoppedAt g t acts.looks x)
+after-stopped : (g : Setting) (t : ℕ) (stop : Stop) (s : Thread) (activity : Activity) (finished : Option Event) → s.ended ≡ None → IsInPlaceAfter g.patience stop s.held activity.name activity.phase activity.held activity.looks finished → (gives_up g.patience activity.looks ≡ true → 1 ≤ g.patience → GaveUpAt g t activity.looks s.pc) → IsStoppedIf g t activity.looks (thread_after g t finished activity.looks s)
+after-stopped g t stop s activity (Some event) open_yet after_step gave_up = λ gives. absurd (true≢false (sym gives ∙ (after_step (stops.Read 0)).patient))
+after-stopped g t stop s activity None open_yet after_step gave_up = λ gives.
+    cond_both (gives_up g.patience activity.looks) (stopped s) s (λ x. IsStoppedAt g t activity.looks x)
     (λ e. record { stopped = ap (λ ended. Some (unwrap_or ended (Stopped s.pc))) open_yet; gave_up = gave_up gives })
     (λ calm. absurd (true≢false (sym gives ∙ calm)))
 
@@ -109,35 +109,35 @@ module _ (g : Setting) (t : ℕ) (stop : Stop) (d : Drive) (there : t < length g
   abbrev s : Thread
   s = thread_of d t
 
-  abbrev old : Acts
-  old = acts_of g d.steps t
+  abbrev old : Activity
+  old = activity_of g d.steps t
 
   abbrev next : Step
   next = step_at t stop old.phase
 
-  abbrev new : Acts
-  new = acts_after next.kind next.at next.value old ((state_of g d.steps).words (word_of next.kind next.at))
+  abbrev new : Activity
+  new = activity_after next.kind next.at next.value old ((state_of g d.steps).words (word_of next.kind next.at))
 
   -- the thread that makes it
-  here : IsStoppedIf g t (acts_of g (next ∷ d.steps) t).looks (thread_after g t (finished_in (state_of g d.steps) next) (acts_of g (next ∷ d.steps) t).looks s)
+  here : IsStoppedIf g t (activity_of g (next ∷ d.steps) t).looks (thread_after g t (finished_in (state_of g d.steps) next) (activity_of g (next ∷ d.steps) t).looks s)
   here =
       let in_place : AreInPlace g.patience stop s.held old = subst (λ (x : Stop). AreInPlace g.patience x s.held old) e (run.in_place t there) in
       let unended : s.ended ≡ None = not_ended s.ended (row g.program (op_at g.program t s.pc) s.pc s.stack s.locals s.held) (subst IsShared (sym e) shared) in
-      subst (λ (a : Acts). IsStoppedIf g t a.looks (thread_after g t (finished_in (state_of g d.steps) next) a.looks s)) (sym (step_here g next d.steps))
+      subst (λ (a : Activity). IsStoppedIf g t a.looks (thread_after g t (finished_in (state_of g d.steps) next) a.looks s)) (sym (step_here g next d.steps))
       (after-stopped g t stop s new (finished_in (state_of g d.steps) next) unended (in_place_after g.patience stop s.held old.name old.phase old.events old.held old.looks _ shared in_place)
       (step-gave_up g t s.pc stop old.phase old.looks _ shared (fits_stop stop g t s shared e).enters in_place.patient))
 
   -- and each thread
   stepped-stopped : AreStopped g (stepped g next d)
   stepped-stopped u below = elim (cases_eq u t) [
-    | inl same ↦ subst (λ (x : ℕ). IsStoppedIf g x (acts_of g (next ∷ d.steps) x).looks (thread_of (stepped g next d) x)) (sym same)
-        (subst (λ (x : Thread). IsStoppedIf g t (acts_of g (next ∷ d.steps) t).looks x) (sym (get_or-set_same d.threads t _ start_thread (omega (arith, run.count)))) here)
-    | inr other ↦ subst (λ (x : Thread). IsStoppedIf g u (acts_of g (next ∷ d.steps) u).looks x) (sym (get_or-set_other d.threads t u _ start_thread other))
-        (subst (λ (a : Acts). IsStoppedIf g u a.looks (thread_of d u)) (sym (step_elsewhere g next d.steps u other)) (each u below))
+    | inl same ↦ subst (λ (x : ℕ). IsStoppedIf g x (activity_of g (next ∷ d.steps) x).looks (thread_of (stepped g next d) x)) (sym same)
+        (subst (λ (x : Thread). IsStoppedIf g t (activity_of g (next ∷ d.steps) t).looks x) (sym (get_or-set_same d.threads t _ start_thread (omega (arith, run.count)))) here)
+    | inr other ↦ subst (λ (x : Thread). IsStoppedIf g u (activity_of g (next ∷ d.steps) u).looks x) (sym (get_or-set_other d.threads t u _ start_thread other))
+        (subst (λ (a : Activity). IsStoppedIf g u a.looks (thread_of d u)) (sym (step_elsewhere g next d.steps u other)) (each u below))
   ]
 
 -- by the stop
-advanced-stopped : (g : Setting) (t : ℕ) (stop : Stop) (d : Drive) → t < length g.program.threads → stop_of g.program t (thread_of d t) ≡ stop → IsRun g d → AreStopped g d → AreStopped g (stepped_if g (next_step t stop (acts_of g d.steps t).phase) d)
+advanced-stopped : (g : Setting) (t : ℕ) (stop : Stop) (d : Drive) → t < length g.program.threads → stop_of g.program t (thread_of d t) ≡ stop → IsRun g d → AreStopped g d → AreStopped g (stepped_if g (next_step t stop (activity_of g d.steps t).phase) d)
 advanced-stopped g t (stops.Read cell) d there e run each = stepped-stopped g t (stops.Read cell) d there tt e run each
 advanced-stopped g t (stops.Write cell value) d there e run each = stepped-stopped g t (stops.Write cell value) d there tt e run each
 advanced-stopped g t (stops.Update cell change) d there e run each = stepped-stopped g t (stops.Update cell change) d there tt e run each
@@ -173,7 +173,7 @@ end_at [] t below = absurd (omega arith)
 end_at (s ∷ threads) zero below = refl
 end_at (s ∷ threads) (suc t) below = end_at threads t (omega arith)
 
-pub driven-gives_up : (g : Setting) (order : List ℕ) → stranger (length g.program.threads) order ≡ None → (t : ℕ) → t < length g.program.threads → gives_up g.patience (acts_of g (whole_run g order).steps t).looks ≡ true → (pc : ℕ) × (slice_get (driven g order).ends t ≡ Some (Stopped pc)) × (1 ≤ g.patience → GaveUpAt g t (acts_of g (whole_run g order).steps t).looks pc)
+pub driven-gives_up : (g : Setting) (order : List ℕ) → stranger (length g.program.threads) order ≡ None → (t : ℕ) → t < length g.program.threads → gives_up g.patience (activity_of g (whole_run g order).steps t).looks ≡ true → (pc : ℕ) × (slice_get (driven g order).ends t ≡ Some (Stopped pc)) × (1 ≤ g.patience → GaveUpAt g t (activity_of g (whole_run g order).steps t).looks pc)
 unfolding driven recording_of whole_run
 driven-gives_up g order known t below gives =
     let d = settled_run g order in

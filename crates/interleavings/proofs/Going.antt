@@ -11,7 +11,7 @@ use Rattle.interleavings.specs.declared.rest.Rest.{Rest}
 use Rattle.interleavings.specs.declared.rest.Rest.TheVariants as rests
 use Rattle.interleavings.specs.declared.simulation.Simulation.{Simulation}
 use Rattle.interleavings.specs.History.{Step}
-use Rattle.interleavings.specs.Recording.{Setting, acts_of}
+use Rattle.interleavings.specs.Recording.{Setting, activity_of}
 use Rattle.interleavings.specs.Driving.{Drive, thread_of, next_step, stepped_if, advance, advance_all, is_left, finished_within, finished, finished_by_all, settle_all}
 use Rattle.interleavings.specs.SimulationShows.{IsReached, Shows, CanGo, Makes}
 use Rattle.interleavings.proofs.Reaching.{advance_all-more, reached-advance, reached-order, reached-all}
@@ -23,7 +23,7 @@ stepped_if_steps g (Some step) d = omega arith
 -- an advance makes one step at most
 pub advance_steps : (g : Setting) (t : ℕ) (d : Drive) → length (advance g t d).steps ≤ length d.steps + 1
 unfolding advance
-advance_steps g t d = stepped_if_steps g (next_step t (stop_of g.program t (thread_of d t)) (acts_of g d.steps t).phase) d
+advance_steps g t d = stepped_if_steps g (next_step t (stop_of g.program t (thread_of d t)) (activity_of g d.steps t).phase) d
 
 pub advance_all_steps : (g : Setting) (ts : List ℕ) (d : Drive) → length (advance_all g ts d).steps ≤ length d.steps + length ts
 unfolding advance_all

@@ -10,11 +10,11 @@ use Rattle.sc_machine.specs.declared.stop.Stop.{Stop}
 use Rattle.sc_machine.specs.declared.stop.Stop.TheVariants as stops
 use Rattle.sc_machine.specs.ThreadRun.{IsShared}
 use Rattle.sc_machine.specs.ThreadStep.{holds}
-use Rattle.interleavings.specs.declared.acts.Acts.{Acts}
-use Rattle.interleavings.specs.declared.acts.HeldTurn.{HeldTurn}
-use Rattle.interleavings.specs.declared.acts.OddLooks.{OddLooks}
-use Rattle.interleavings.specs.declared.acts.Phase.{Phase}
-use Rattle.interleavings.specs.declared.acts.Phase.TheVariants.{Idle, Loaded, Numbered, Marked, Fetched, Stored, Looked}
+use Rattle.interleavings.specs.declared.activity.Activity.{Activity}
+use Rattle.interleavings.specs.declared.activity.HeldTurn.{HeldTurn}
+use Rattle.interleavings.specs.declared.activity.OddLooks.{OddLooks}
+use Rattle.interleavings.specs.declared.activity.Phase.{Phase}
+use Rattle.interleavings.specs.declared.activity.Phase.TheVariants.{Idle, Loaded, Numbered, Marked, Fetched, Stored, Looked}
 use Rattle.interleavings.specs.declared.event.Event.{Event}
 use Rattle.interleavings.specs.AtomicStep.{held_turn, Begins, Suits, May, is_even, read_if, entered_if, finished_by, phase_if, phase_after, name_after, held_if, held_after, looked, looks_after}
 use Rattle.interleavings.specs.Driving.{at_of, value_of}
@@ -32,19 +32,60 @@ abbrev pub HasUpdated : Change → Option ℕ → ℕ → Type 0
 HasUpdated change None word = ⊥
 HasUpdated change (Some old) word = applied change old ≡ word
 
+-- the thread stands at a read of this cell
+abbrev pub ReadsAt : ℕ → Stop → Type 0
+ReadsAt at (stops.Read cell) = cell ≡ at
+ReadsAt at (stops.Write cell value) = ⊥
+ReadsAt at (stops.Update cell change) = ⊥
+ReadsAt at (stops.Enter monitor) = ⊥
+ReadsAt at (stops.Exit monitor) = ⊥
+ReadsAt at (stops.Ended end) = ⊥
+
+-- at a write or an update of it
+abbrev pub ClaimsAt : ℕ → Stop → Type 0
+ClaimsAt at (stops.Read cell) = ⊥
+ClaimsAt at (stops.Write cell value) = cell ≡ at
+ClaimsAt at (stops.Update cell change) = cell ≡ at
+ClaimsAt at (stops.Enter monitor) = ⊥
+ClaimsAt at (stops.Exit monitor) = ⊥
+ClaimsAt at (stops.Ended end) = ⊥
+
+-- at an update of it
+abbrev pub UpdatesAt : ℕ → Stop → Type 0
+UpdatesAt at (stops.Read cell) = ⊥
+UpdatesAt at (stops.Write cell value) = ⊥
+UpdatesAt at (stops.Update cell change) = cell ≡ at
+UpdatesAt at (stops.Enter monitor) = ⊥
+UpdatesAt at (stops.Exit monitor) = ⊥
+UpdatesAt at (stops.Ended end) = ⊥
+
+-- at a write or an update of it that stores this word, after it loaded this old value or none
+abbrev pub StoresAt : ℕ → Option ℕ → ℕ → Stop → Type 0
+StoresAt at old word (stops.Read cell) = ⊥
+StoresAt at old word (stops.Write cell value) = (cell ≡ at) × HasWritten value old word
+StoresAt at old word (stops.Update cell change) = (cell ≡ at) × HasUpdated change old word
+StoresAt at old word (stops.Enter monitor) = ⊥
+StoresAt at old word (stops.Exit monitor) = ⊥
+StoresAt at old word (stops.Ended end) = ⊥
+
+-- at an entry into this monitor
+abbrev pub EntersMonitor : ℕ → Stop → Type 0
+EntersMonitor at (stops.Read cell) = ⊥
+EntersMonitor at (stops.Write cell value) = ⊥
+EntersMonitor at (stops.Update cell change) = ⊥
+EntersMonitor at (stops.Enter monitor) = monitor ≡ at
+EntersMonitor at (stops.Exit monitor) = ⊥
+EntersMonitor at (stops.Ended end) = ⊥
+
 -- the phase is one of the shared instruction at which the thread stands; at its end it is idle
 abbrev pub IsPhaseAt : Phase → Stop → Type 0
 IsPhaseAt Idle stop = Unit {0}
-IsPhaseAt (Loaded at value) (stops.Read cell) = cell ≡ at
-IsPhaseAt (Numbered at n) (stops.Write cell value) = cell ≡ at
-IsPhaseAt (Numbered at n) (stops.Update cell change) = cell ≡ at
-IsPhaseAt (Marked at n) (stops.Write cell value) = cell ≡ at
-IsPhaseAt (Marked at n) (stops.Update cell change) = cell ≡ at
-IsPhaseAt (Fetched at n old) (stops.Update cell change) = cell ≡ at
-IsPhaseAt (Stored at n old word) (stops.Write cell value) = (cell ≡ at) × HasWritten value old word
-IsPhaseAt (Stored at n old word) (stops.Update cell change) = (cell ≡ at) × HasUpdated change old word
-IsPhaseAt (Looked at turn) (stops.Enter monitor) = monitor ≡ at
-IsPhaseAt phase stop = ⊥
+IsPhaseAt (Loaded at value) stop = ReadsAt at stop
+IsPhaseAt (Numbered at n) stop = ClaimsAt at stop
+IsPhaseAt (Marked at n) stop = ClaimsAt at stop
+IsPhaseAt (Fetched at n old) stop = UpdatesAt at stop
+IsPhaseAt (Stored at n old word) stop = StoresAt at old word stop
+IsPhaseAt (Looked at turn) stop = EntersMonitor at stop
 
 -- each monitor whose flag is up is held for a turn
 abbrev pub HasTurns : List Bool → List HeldTurn → Type 0
@@ -52,8 +93,12 @@ HasTurns flags held = (monitor : ℕ) → holds flags monitor ≡ true → IsSom
 
 -- a thread that has not ended has looked less often in a row than the patience says
 abbrev pub IsPatient : ℕ → Stop → Option OddLooks → Type 0
+IsPatient patience (stops.Read cell) row = gives_up patience row ≡ false
+IsPatient patience (stops.Write cell value) row = gives_up patience row ≡ false
+IsPatient patience (stops.Update cell change) row = gives_up patience row ≡ false
+IsPatient patience (stops.Enter monitor) row = gives_up patience row ≡ false
+IsPatient patience (stops.Exit monitor) row = gives_up patience row ≡ false
 IsPatient patience (stops.Ended end) row = Unit {0}
-IsPatient patience stop row = gives_up patience row ≡ false
 
 -- a thread is in place: it has a name, and what it is doing fits where it stands and the flags that are up
 pub record IsInPlace (patience : ℕ) (stop : Stop) (flags : List Bool) (name : Option ℕ) (phase : Phase) (held : List HeldTurn) (looks : Option OddLooks) : Type 0 where
@@ -63,8 +108,8 @@ pub record IsInPlace (patience : ℕ) (stop : Stop) (flags : List Bool) (name : 
   pub patient : IsPatient patience stop looks
 
 -- the same of all that a thread has done and is doing
-abbrev pub AreInPlace : ℕ → Stop → List Bool → Acts → Type 0
-AreInPlace patience stop flags acts = IsInPlace patience stop flags acts.name acts.phase acts.held acts.looks
+abbrev pub AreInPlace : ℕ → Stop → List Bool → Activity → Type 0
+AreInPlace patience stop flags activity = IsInPlace patience stop flags activity.name activity.phase activity.held activity.looks
 
 -- a phase of the shared instruction is one in which its next step begins
 begins_next : (stop : Stop) (phase : Phase) → IsShared stop → IsPhaseAt phase stop → Begins (kind_at stop phase) (at_of stop) phase
@@ -88,35 +133,35 @@ begins_next (stops.Ended end) phase shared fits = absurd shared
 begins_next stop phase shared fits = absurd fits
 
 -- a thread with a name, which has the turn where it stands at an exit, suits its next step
-suits_next : (stop : Stop) (phase : Phase) (acts : Acts) → IsShared stop → IsPhaseAt phase stop → IsSome acts.name → ((monitor : ℕ) → stop ≡ stops.Exit monitor → IsSome (held_turn monitor acts.held)) → Suits (kind_at stop phase) (at_of stop) acts
-suits_next (stops.Read cell) Idle acts shared fits named turn = named
-suits_next (stops.Read cell) (Loaded at value) acts shared fits named turn = tt
-suits_next (stops.Write cell value) Idle acts shared fits named turn = named
-suits_next (stops.Write cell value) (Numbered at n) acts shared fits named turn = tt
-suits_next (stops.Write cell value) (Marked at n) acts shared fits named turn = tt
-suits_next (stops.Write cell value) (Stored at n None word) acts shared fits named turn = tt
-suits_next (stops.Write cell value) (Stored at n (Some old) word) acts shared fits named turn = absurd fits.1
-suits_next (stops.Update cell change) Idle acts shared fits named turn = named
-suits_next (stops.Update cell change) (Numbered at n) acts shared fits named turn = tt
-suits_next (stops.Update cell change) (Marked at n) acts shared fits named turn = tt
-suits_next (stops.Update cell change) (Fetched at n old) acts shared fits named turn = tt
-suits_next (stops.Update cell change) (Stored at n (Some old) word) acts shared fits named turn = tt
-suits_next (stops.Update cell change) (Stored at n None word) acts shared fits named turn = absurd fits.1
-suits_next (stops.Enter monitor) Idle acts shared fits named turn = named
-suits_next (stops.Enter monitor) (Looked at count) acts shared fits named turn = tt
-suits_next (stops.Exit monitor) Idle acts shared fits named turn = turn monitor refl
-suits_next (stops.Ended end) phase acts shared fits named turn = absurd shared
-suits_next stop phase acts shared fits named turn = absurd fits
+suits_next : (stop : Stop) (phase : Phase) (activity : Activity) → IsShared stop → IsPhaseAt phase stop → IsSome activity.name → ((monitor : ℕ) → stop ≡ stops.Exit monitor → IsSome (held_turn monitor activity.held)) → Suits (kind_at stop phase) (at_of stop) activity
+suits_next (stops.Read cell) Idle activity shared fits named turn = named
+suits_next (stops.Read cell) (Loaded at value) activity shared fits named turn = tt
+suits_next (stops.Write cell value) Idle activity shared fits named turn = named
+suits_next (stops.Write cell value) (Numbered at n) activity shared fits named turn = tt
+suits_next (stops.Write cell value) (Marked at n) activity shared fits named turn = tt
+suits_next (stops.Write cell value) (Stored at n None word) activity shared fits named turn = tt
+suits_next (stops.Write cell value) (Stored at n (Some old) word) activity shared fits named turn = absurd fits.1
+suits_next (stops.Update cell change) Idle activity shared fits named turn = named
+suits_next (stops.Update cell change) (Numbered at n) activity shared fits named turn = tt
+suits_next (stops.Update cell change) (Marked at n) activity shared fits named turn = tt
+suits_next (stops.Update cell change) (Fetched at n old) activity shared fits named turn = tt
+suits_next (stops.Update cell change) (Stored at n (Some old) word) activity shared fits named turn = tt
+suits_next (stops.Update cell change) (Stored at n None word) activity shared fits named turn = absurd fits.1
+suits_next (stops.Enter monitor) Idle activity shared fits named turn = named
+suits_next (stops.Enter monitor) (Looked at count) activity shared fits named turn = tt
+suits_next (stops.Exit monitor) Idle activity shared fits named turn = turn monitor refl
+suits_next (stops.Ended end) phase activity shared fits named turn = absurd shared
+suits_next stop phase activity shared fits named turn = absurd fits
 
 -- a thread that stands at an exit holds the monitor for a turn
 pub turn_at_exit : (stop : Stop) (flags : List Bool) (held : List HeldTurn) → HoldsAtExit stop flags → HasTurns flags held → (monitor : ℕ) → stop ≡ stops.Exit monitor → IsSome (held_turn monitor held)
 turn_at_exit stop flags held there turns monitor e = turns monitor (subst (λ (x : Stop). HoldsAtExit x flags) e there)
 
 -- the next step of a thread that stands at a shared instruction may be made
-pub may_next : (patience : ℕ) (stop : Stop) (flags : List Bool) (acts : Acts) → IsShared stop → HoldsAtExit stop flags → AreInPlace patience stop flags acts → May (kind_at stop acts.phase) (at_of stop) acts
-may_next patience stop flags acts shared there before = record {
-  begins = begins_next stop acts.phase shared before.fits;
-  suits = suits_next stop acts.phase acts shared before.fits before.named (turn_at_exit stop flags acts.held there before.turns);
+pub may_next : (patience : ℕ) (stop : Stop) (flags : List Bool) (activity : Activity) → IsShared stop → HoldsAtExit stop flags → AreInPlace patience stop flags activity → May (kind_at stop activity.phase) (at_of stop) activity
+may_next patience stop flags activity shared there before = record {
+  begins = begins_next stop activity.phase shared before.fits;
+  suits = suits_next stop activity.phase activity shared before.fits before.named (turn_at_exit stop flags activity.held there before.turns);
 }
 
 -- the thread is in place after a step: where it finishes no event, at the same stop, or at an end if it gives up; where it

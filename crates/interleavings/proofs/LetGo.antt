@@ -3,7 +3,7 @@ use Rattle.std.proofs.Common.{◌≡◌, ℕ, ◌+◌, ◌<◌, ◌∙◌, ◌==
 use Rattle.std.proofs.Math.Seq.{drop-cons}
 use Rattle.std.proofs.lemmas.List.{take_more}
 use Rattle.std.proofs.lemmas.List.Elements.{filter-append}
-use Rattle.interleavings.specs.declared.acts.HeldTurn.{HeldTurn}
+use Rattle.interleavings.specs.declared.activity.HeldTurn.{HeldTurn}
 
 abbrev others : ℕ → List HeldTurn → List HeldTurn
 others mon held = filter (λ h. not (h.mon == mon)) held

@@ -2,10 +2,10 @@
 use Rattle.std.proofs.Common.{◌≡◌, ℕ, ◌+◌, ◌*◌, ◌%◌, ◌==◌, ◌⊎◌, Bool, true, false, List, Option, refl, sym, ◌∙◌, ap, inl, inr, arith}
 use Rattle.std.proofs.lemmas.Bool.{true≢false, cond_both, eqb-true, eqb-false, eq-eqb}
 use prog.Atomic.{either}
-use Rattle.interleavings.specs.declared.acts.HeldTurn.{HeldTurn}
-use Rattle.interleavings.specs.declared.acts.OddLooks.{OddLooks}
-use Rattle.interleavings.specs.declared.acts.Phase.{Phase}
-use Rattle.interleavings.specs.declared.acts.Phase.TheVariants.{Idle, Loaded, Numbered, Marked, Fetched, Stored, Looked}
+use Rattle.interleavings.specs.declared.activity.HeldTurn.{HeldTurn}
+use Rattle.interleavings.specs.declared.activity.OddLooks.{OddLooks}
+use Rattle.interleavings.specs.declared.activity.Phase.{Phase}
+use Rattle.interleavings.specs.declared.activity.Phase.TheVariants.{Idle, Loaded, Numbered, Marked, Fetched, Stored, Looked}
 use Rattle.interleavings.specs.declared.event.Event.{Event}
 use Rattle.interleavings.specs.declared.kind.Kind.{Kind}
 use Rattle.interleavings.specs.declared.kind.Kind.TheVariants as by
@@ -14,10 +14,13 @@ use Rattle.interleavings.specs.History.{put_word}
 
 -- a writer in this phase has claimed the number of the cell and not completed it
 abbrev pub Claims : ℕ → Phase → Type 0
+Claims cell Idle = ⊥
+Claims cell (Loaded at value) = ⊥
+Claims cell (Numbered at n) = ⊥
 Claims cell (Marked at n) = cell ≡ at
 Claims cell (Fetched at n old) = cell ≡ at
 Claims cell (Stored at n old value) = cell ≡ at
-Claims cell phase = ⊥
+Claims cell (Looked monitor turn) = ⊥
 
 -- an odd number is one that this step made so, or one that was odd before and that a thread which claimed it still claims
 abbrev pub IsOddFrom : ℕ → ℕ → ℕ → Phase → Phase → Type 0

@@ -8,8 +8,8 @@ use Rattle.sc_machine.specs.declared.end.End.{End}
 use Rattle.sc_machine.specs.declared.end.End.TheVariants.{Halted, Trapped, OutOfSteps, Stopped}
 use Rattle.sc_machine.specs.ThreadStep.{end_of}
 use Rattle.sc_machine.specs.Schedule.{stopped}
-use Rattle.interleavings.specs.declared.acts.OddLooks.{OddLooks}
-use Rattle.interleavings.specs.Recording.{Setting, acts_of, gives_up, GaveUpAt, IsEndAfter, IsRecording}
+use Rattle.interleavings.specs.declared.activity.OddLooks.{OddLooks}
+use Rattle.interleavings.specs.Recording.{Setting, activity_of, gives_up, GaveUpAt, IsEndAfter, IsRecording}
 use Rattle.interleavings.specs.Driving.{driven, recording_of, stranger, whole_run}
 use Rattle.interleavings.proofs.FollowsLogs.{driven-followed}
 use Rattle.interleavings.proofs.GivingUp.{driven-gives_up}
@@ -39,13 +39,13 @@ end_within g order t end known found =
     let threads = (settled_run g order).threads in
     omega (arith, slice_get_within (map end_of (map stopped threads)) t end found, length-map (map stopped threads) end_of, length-map threads stopped, (reached-run g (settled_run g order) (reached-settled g order known)).count)
 
-pub driven-recording : MachineLaws → (g : Setting) (order : List ℕ) → 1 ≤ g.patience → stranger (length g.program.threads) order ≡ None → ((t pc : ℕ) → slice_get (driven g order).ends t ≡ Some (Stopped pc) → gives_up g.patience (acts_of g (whole_run g order).steps t).looks ≡ true) → IsRecording g (driven g order)
+pub driven-recording : MachineLaws → (g : Setting) (order : List ℕ) → 1 ≤ g.patience → stranger (length g.program.threads) order ≡ None → ((t pc : ℕ) → slice_get (driven g order).ends t ≡ Some (Stopped pc) → gives_up g.patience (activity_of g (whole_run g order).steps t).looks ≡ true) → IsRecording g (driven g order)
 driven-recording laws g order some known all_gave_up = record {
   steps = (whole_run g order).steps;
   history = driven-history laws g order known;
   followed = driven-followed laws g order known;
   ends = λ t end found.
-      by_end g t (acts_of g (whole_run g order).steps t).looks end
+      by_end g t (activity_of g (whole_run g order).steps t).looks end
       (λ gives.
         let gave_up = driven-gives_up g order known t (end_within g order t end known found) gives in
         (gave_up.0, some_end end (Stopped gave_up.0) (sym found ∙ gave_up.1), gave_up.2 some))

@@ -8,15 +8,15 @@ use Rattle.sc_machine.specs.declared.stop.Stop.{Stop}
 use Rattle.sc_machine.specs.declared.stop.Stop.TheVariants as stops
 use Rattle.sc_machine.specs.ThreadStep.{start_thread, stop_of}
 use Rattle.sc_machine.specs.Schedule.{thread_numbers}
-use Rattle.interleavings.specs.declared.acts.Acts.{Acts}
-use Rattle.interleavings.specs.declared.acts.Phase.{Phase}
-use Rattle.interleavings.specs.declared.acts.Phase.TheVariants.{Idle, Loaded, Numbered, Marked, Fetched, Stored, Looked}
+use Rattle.interleavings.specs.declared.activity.Activity.{Activity}
+use Rattle.interleavings.specs.declared.activity.Phase.{Phase}
+use Rattle.interleavings.specs.declared.activity.Phase.TheVariants.{Idle, Loaded, Numbered, Marked, Fetched, Stored, Looked}
 use Rattle.interleavings.specs.declared.kind.Kind.{Kind}
 use Rattle.interleavings.specs.declared.rest.Rest.{Rest}
 use Rattle.interleavings.specs.declared.rest.Rest.TheVariants as rests
 use Rattle.interleavings.specs.AtomicStep.{SharedWord, Number, word_of, is_even, phase_if, phase_after}
 use Rattle.interleavings.specs.History.{Step, newcomer, after}
-use Rattle.interleavings.specs.Recording.{Setting, state_of, acts_of, IsAtRest, Among, IsHistoryOf}
+use Rattle.interleavings.specs.Recording.{Setting, state_of, activity_of, IsAtRest, Among, IsHistoryOf}
 use Rattle.interleavings.specs.Driving.{Drive, thread_of, next_kind, at_of, value_of, stepped_if, advance, has_claimed, is_loaded, is_left, finished_within, finished, finished_by_all, settle_all, whole_run, advance_all, begun, recording_of, driven, stranger}
 use Rattle.interleavings.specs.Walking.{is_exit}
 use Rattle.interleavings.proofs.OddNumbers.{Claims}
@@ -29,7 +29,7 @@ use Rattle.interleavings.proofs.Beginning.{begun-run}
 
 -- what a thread is doing in a run
 abbrev pub phase_of : Setting → Drive → ℕ → Phase
-phase_of g d t = (acts_of g d.steps t).phase
+phase_of g d t = (activity_of g d.steps t).phase
 
 -- where a thread of a run stands
 abbrev pub stop_at : Setting → Drive → ℕ → Stop
@@ -50,7 +50,7 @@ module _ (g : Setting) (t at value : ℕ) where
   stepped_by kind d = stepped_if g (option_map (λ k. record { who = t; kind = k; at = at; value = value }) kind) d
 
   -- the other threads do nothing by it
-  stepped_by-elsewhere : (kind : Option Kind) (d : Drive) (u : ℕ) → u ≢ t → acts_of g (stepped_by kind d).steps u ≡ acts_of g d.steps u
+  stepped_by-elsewhere : (kind : Option Kind) (d : Drive) (u : ℕ) → u ≢ t → activity_of g (stepped_by kind d).steps u ≡ activity_of g d.steps u
   stepped_by-elsewhere None d u other = refl
   stepped_by-elsewhere (Some kind) d u other = step_elsewhere g (record { who = t; kind = kind; at = at; value = value }) d.steps u other
 
@@ -62,12 +62,12 @@ module _ (g : Setting) (t at value : ℕ) where
   -- the thread itself is in the phase that the kind says
   stepped_by-here : (kind : Option Kind) (d : Drive) → phase_of g (stepped_by kind d) t ≡ phase_by (state_of g d.steps).words kind at value (phase_of g d t)
   stepped_by-here None d = refl
-  stepped_by-here (Some kind) d = ap (λ (a : Acts). a.phase) (step_here g (record { who = t; kind = kind; at = at; value = value }) d.steps)
+  stepped_by-here (Some kind) d = ap (λ (a : Activity). a.phase) (step_here g (record { who = t; kind = kind; at = at; value = value }) d.steps)
 
 -- the same of an advance
 advance-elsewhere : (g : Setting) (t : ℕ) (d : Drive) (u : ℕ) → u ≢ t → phase_of g (advance g t d) u ≡ phase_of g d u
 unfolding advance
-advance-elsewhere g t d u other = ap (λ (a : Acts). a.phase) (stepped_by-elsewhere g t (at_of (stop_at g d t)) (value_of (stop_at g d t) (phase_of g d t)) (next_kind (stop_at g d t) (phase_of g d t)) d u other)
+advance-elsewhere g t d u other = ap (λ (a : Activity). a.phase) (stepped_by-elsewhere g t (at_of (stop_at g d t)) (value_of (stop_at g d t) (phase_of g d t)) (next_kind (stop_at g d t) (phase_of g d t)) d u other)
 
 advance-thread_elsewhere : (g : Setting) (t : ℕ) (d : Drive) (u : ℕ) → u ≢ t → thread_of (advance g t d) u ≡ thread_of d u
 unfolding advance
@@ -118,10 +118,13 @@ module _ (X : Type 0) (seen : Drive → ℕ → X) (g : Setting) (rest : Rest) (
 
 -- how many steps a writer that has claimed has left
 abbrev steps_left : Phase → ℕ
-steps_left (Marked cell n) = 3
-steps_left (Fetched cell n old) = 2
-steps_left (Stored cell n old value) = 1
-steps_left phase = 0
+steps_left Idle = 0
+steps_left (Loaded at value) = 0
+steps_left (Numbered at n) = 0
+steps_left (Marked at n) = 3
+steps_left (Fetched at n old) = 2
+steps_left (Stored at n old value) = 1
+steps_left (Looked monitor turn) = 0
 
 -- it has at most three
 steps_left_limit : (phase : Phase) → steps_left phase ≤ 3
@@ -166,8 +169,13 @@ claims_tell cell phase claims = absurd claims
 
 -- whether a reader has its number still to load, as a number
 abbrev loads_left : Phase → ℕ
-loads_left (Loaded cell value) = 1
-loads_left phase = 0
+loads_left Idle = 0
+loads_left (Loaded at value) = 1
+loads_left (Numbered at n) = 0
+loads_left (Marked at n) = 0
+loads_left (Fetched at n old) = 0
+loads_left (Stored at n old value) = 0
+loads_left (Looked monitor turn) = 0
 
 -- it is one load at most
 loads_left_limit : (phase : Phase) → loads_left phase ≤ 1
@@ -299,7 +307,7 @@ nothing-left laws g order known rests.Read t below = (rest_tells (phase_of g (se
 nothing-left laws g order known rests.Exits t below = (order-resting laws g order known).1 t below
 
 -- nobody but those who made the steps has done anything
-outsider : (g : Setting) (steps : List Step) (n t : ℕ) → ((s : Step) → Among s steps → s.who < n) → n ≤ t → acts_of g steps t ≡ newcomer.acts
+outsider : (g : Setting) (steps : List Step) (n t : ℕ) → ((s : Step) → Among s steps → s.who < n) → n ≤ t → activity_of g steps t ≡ newcomer.activity
 unfolding after
 outsider g [] n t members past = refl
 outsider g (s ∷ steps) n t members past = step_elsewhere g s steps t (λ same. omega (arith, members s (inl refl))) ∙ outsider g steps n t (λ other among. members other (inr among)) past
@@ -317,7 +325,7 @@ driven-history laws g order known =
       logs = refl;
       at_rest = λ t. elim (cases_lt t n) [
         | inl below ↦ resting.1 t below
-        | inr past ↦ subst (λ (a : Acts). IsAtRest a.phase) (sym (outsider g steps n t resting.0.members past)) tt
+        | inr past ↦ subst (λ (a : Activity). IsAtRest a.phase) (sym (outsider g steps n t resting.0.members past)) tt
       ];
       last_values = refl;
     }

@@ -7,7 +7,7 @@ use Rattle.interleavings.specs.declared.event.Event.TheVariants as events
 use Rattle.interleavings.specs.declared.event.LogEntry.{LogEntry}
 use Rattle.interleavings.specs.Events.{log_of}
 use Rattle.interleavings.specs.Following.{Followed, follow}
-use Rattle.interleavings.specs.Recording.{Setting, acts_of}
+use Rattle.interleavings.specs.Recording.{Setting, activity_of}
 use Rattle.interleavings.specs.Driving.{driven, recording_of, whole_run, stranger}
 use Rattle.interleavings.proofs.FollowedWalks.{follow-gone}
 use Rattle.interleavings.proofs.FollowsLogs.{followed_in, thread_followed}
@@ -40,6 +40,6 @@ unfolding driven recording_of whole_run
 driven-short laws g order some known =
     let d = settled_run g order in
     let settles = order-resting laws g order known in
-    each_made (λ (log : List LogEntry). length log ≤ g.fuel) (λ t. log_of (acts_of g d.steps t).events) (length g.program.threads) 0 (length g.program.threads)
-    (λ t below. followed-short laws g.program g.fuel t (log_of (acts_of g d.steps t).events) (followed_in g d t) some (thread_followed laws g d t below settles.0.0 (settles.1 t below)))
+    each_made (λ (log : List LogEntry). length log ≤ g.fuel) (λ t. log_of (activity_of g d.steps t).events) (length g.program.threads) 0 (length g.program.threads)
+    (λ t below. followed-short laws g.program g.fuel t (log_of (activity_of g d.steps t).events) (followed_in g d t) some (thread_followed laws g d t below settles.0.0 (settles.1 t below)))
     (omega arith)

@@ -5,8 +5,8 @@ use Rattle.std.specs.Prelude.{◌⊎◌}
 use Rattle.sc_machine.specs.ThreadRun.{IsShared}
 use Rattle.sc_machine.specs.ThreadStep.{Thread, start_thread, settled, stop_of}
 use Rattle.sc_machine.specs.Schedule.{stopped}
-use Rattle.interleavings.specs.declared.acts.HeldTurn.{HeldTurn}
-use Rattle.interleavings.specs.declared.acts.OddLooks.{OddLooks}
+use Rattle.interleavings.specs.declared.activity.HeldTurn.{HeldTurn}
+use Rattle.interleavings.specs.declared.activity.OddLooks.{OddLooks}
 use Rattle.interleavings.specs.declared.event.Event.{Event}
 use Rattle.interleavings.specs.AtomicStep.{with_event}
 use Rattle.interleavings.specs.Recording.{Setting}

@@ -1,16 +1,16 @@
 -- The numbers of a history are bounded by its length.
 use Rattle.std.proofs.Common.{◌≡◌, ℕ, suc, ◌+◌, ◌*◌, ◌/◌, ◌≤◌, ◌==◌, Bool, true, false, if◌then◌else◌, not, List, [], ◌∷◌, length, filter, Option, Some, None, refl, sym, ap, subst, arith}
 use prog.Atomic.{either}
-use Rattle.interleavings.specs.declared.acts.Acts.{Acts}
-use Rattle.interleavings.specs.declared.acts.HeldTurn.{HeldTurn}
-use Rattle.interleavings.specs.declared.acts.OddLooks.{OddLooks}
-use Rattle.interleavings.specs.declared.acts.Phase.{Phase}
-use Rattle.interleavings.specs.declared.acts.Phase.TheVariants.{Idle, Loaded, Numbered, Marked, Fetched, Looked}
+use Rattle.interleavings.specs.declared.activity.Activity.{Activity}
+use Rattle.interleavings.specs.declared.activity.HeldTurn.{HeldTurn}
+use Rattle.interleavings.specs.declared.activity.OddLooks.{OddLooks}
+use Rattle.interleavings.specs.declared.activity.Phase.{Phase}
+use Rattle.interleavings.specs.declared.activity.Phase.TheVariants.{Idle, Loaded, Numbered, Marked, Fetched, Looked}
 use Rattle.interleavings.specs.declared.kind.Kind.{Kind}
 use Rattle.interleavings.specs.declared.kind.Kind.TheVariants as by
 use Rattle.interleavings.specs.AtomicStep.{SharedWord, Drawn, Value, Number, Monitor, word_of, word_after, phase_after, phase_if, held_after, held_if, marked, fetched, stored, number_in, turn_in, held_turn, turn_or_zero, is_even, one_more, looked, looks_after}
 use Rattle.interleavings.specs.History.{Person, State, Step, same_word, start_state, person_after, happens, after}
-use Rattle.interleavings.specs.Bounded.{IsWordWithin, IsPhaseWithin, AreTurnsWithin, AreLooksWithin, AreActsWithin, IsStateWithin}
+use Rattle.interleavings.specs.Bounded.{IsWordWithin, IsPhaseWithin, AreTurnsWithin, AreLooksWithin, IsActivityWithin, IsStateWithin}
 
 -- words with the same name are one
 pub same_word_tells : (word other : SharedWord) → same_word word other ≡ true → word ≡ other
@@ -30,20 +30,20 @@ either_within true x y n p q = p
 either_within false x y n p q = q
 
 -- the word that a step leaves
-word_within : (kind : Kind) (at value n : ℕ) (acts : Acts) (met : ℕ) → IsWordWithin n (word_of kind at) met → AreActsWithin n acts → IsWordWithin (suc n) (word_of kind at) (word_after kind at value acts met)
-word_within by.ValueLoad at value n acts met w a = tt
-word_within by.NumberLoad at value n acts met w a = omega arith
-word_within by.SeeNumber at value n acts met w a = omega arith
-word_within by.Claim at value n acts met w a =
-    either_within (met == 2 * number_in acts.phase) (2 * number_in acts.phase + 1) met (2 * suc n + 1) (omega (arith, a.phase.number)) (omega arith)
-word_within by.Fetch at value n acts met w a = tt
-word_within by.Put at value n acts met w a = tt
-word_within by.Complete at value n acts met w a = omega (arith, a.phase.number)
-word_within by.Look at value n acts met w a = omega arith
-word_within by.Enter at value n acts met w a =
-    either_within (met == 2 * turn_in acts.phase) (2 * turn_in acts.phase + 1) met (2 * suc n + 1) (omega (arith, a.phase.turn)) (omega arith)
-word_within by.Leave at value n acts met w a = omega (arith, held_turn_within n at acts.held a.held)
-word_within by.Draw at value n acts met w a = omega arith
+word_within : (kind : Kind) (at value n : ℕ) (activity : Activity) (met : ℕ) → IsWordWithin n (word_of kind at) met → IsActivityWithin n activity → IsWordWithin (suc n) (word_of kind at) (word_after kind at value activity met)
+word_within by.ValueLoad at value n activity met w a = tt
+word_within by.NumberLoad at value n activity met w a = omega arith
+word_within by.SeeNumber at value n activity met w a = omega arith
+word_within by.Claim at value n activity met w a =
+    either_within (met == 2 * number_in activity.phase) (2 * number_in activity.phase + 1) met (2 * suc n + 1) (omega (arith, a.phase.number)) (omega arith)
+word_within by.Fetch at value n activity met w a = tt
+word_within by.Put at value n activity met w a = tt
+word_within by.Complete at value n activity met w a = omega (arith, a.phase.number)
+word_within by.Look at value n activity met w a = omega arith
+word_within by.Enter at value n activity met w a =
+    either_within (met == 2 * turn_in activity.phase) (2 * turn_in activity.phase + 1) met (2 * suc n + 1) (omega (arith, a.phase.turn)) (omega arith)
+word_within by.Leave at value n activity met w a = omega (arith, held_turn_within n at activity.held a.held)
+word_within by.Draw at value n activity met w a = omega arith
 
 pub word_wider : (word : SharedWord) (n m value : ℕ) → n ≤ m → IsWordWithin n word value → IsWordWithin m word value
 word_wider Drawn n m value le w = omega arith
@@ -138,18 +138,18 @@ happens_within s st n w =
     let touched : SharedWord = word_of s.kind s.at in
     let met : ℕ = st.words touched in
     let person : Person = st.people s.who in
-    let put : IsWordWithin (suc n) touched (word_after s.kind s.at s.value person.acts met) = word_within s.kind s.at s.value n person.acts met (w.words touched) (w.people s.who) in
+    let put : IsWordWithin (suc n) touched (word_after s.kind s.at s.value person.activity met) = word_within s.kind s.at s.value n person.activity met (w.words touched) (w.people s.who) in
     record {
-      words = λ word. if_within (IsWordWithin (suc n) word) (same_word word touched) (word_after s.kind s.at s.value person.acts met) (st.words word)
-          (λ same. subst (λ (k : SharedWord). IsWordWithin (suc n) k (word_after s.kind s.at s.value person.acts met)) (sym (same_word_tells word touched same)) put)
+      words = λ word. if_within (IsWordWithin (suc n) word) (same_word word touched) (word_after s.kind s.at s.value person.activity met) (st.words word)
+          (λ same. subst (λ (k : SharedWord). IsWordWithin (suc n) k (word_after s.kind s.at s.value person.activity met)) (sym (same_word_tells word touched same)) put)
           (word_wider word n (suc n) (st.words word) (omega arith) (w.words word));
-      people = λ who. if_within (λ (p : Person). AreActsWithin (suc n) p.acts) (who == s.who) (person_after s person met) (st.people who)
+      people = λ who. if_within (λ (p : Person). IsActivityWithin (suc n) p.activity) (who == s.who) (person_after s person met) (st.people who)
           (λ same. record {
-            phase = phase_within s.kind s.at s.value n person.acts.phase met (w.words touched) (w.people s.who).phase;
-            held = held_within s.kind s.at n person.acts.phase person.acts.held met (w.people s.who).phase (w.people s.who).held;
-            looks = looks_within s.kind s.at n person.acts.looks met (w.people s.who).looks;
+            phase = phase_within s.kind s.at s.value n person.activity.phase met (w.words touched) (w.people s.who).phase;
+            held = held_within s.kind s.at n person.activity.phase person.activity.held met (w.people s.who).phase (w.people s.who).held;
+            looks = looks_within s.kind s.at n person.activity.looks met (w.people s.who).looks;
           })
-          (record { phase = phase_wider n (suc n) (st.people who).acts.phase (omega arith) (w.people who).phase; held = turns_wider n (suc n) (st.people who).acts.held (omega arith) (w.people who).held; looks = looks_wider n (suc n) (st.people who).acts.looks (omega arith) (w.people who).looks });
+          (record { phase = phase_wider n (suc n) (st.people who).activity.phase (omega arith) (w.people who).phase; held = turns_wider n (suc n) (st.people who).activity.held (omega arith) (w.people who).held; looks = looks_wider n (suc n) (st.people who).activity.looks (omega arith) (w.people who).looks });
     }
 
 start_within : (starts : List ℕ) (word : SharedWord) → IsWordWithin 0 word ((start_state starts).words word)
@@ -167,5 +167,5 @@ after_within starts (s ∷ steps) = happens_within s (after starts steps) (lengt
 pub state_wider : (st : State) (n m : ℕ) → n ≤ m → IsStateWithin n st → IsStateWithin m st
 state_wider st n m le w = record {
   words = λ word. word_wider word n m (st.words word) le (w.words word);
-  people = λ who. record { phase = phase_wider n m (st.people who).acts.phase le (w.people who).phase; held = turns_wider n m (st.people who).acts.held le (w.people who).held; looks = looks_wider n m (st.people who).acts.looks le (w.people who).looks };
+  people = λ who. record { phase = phase_wider n m (st.people who).activity.phase le (w.people who).phase; held = turns_wider n m (st.people who).activity.held le (w.people who).held; looks = looks_wider n m (st.people who).activity.looks le (w.people who).looks };
 }

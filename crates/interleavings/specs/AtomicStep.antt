@@ -2,13 +2,13 @@
 -- Threads, cells and monitors are of any number here, and no program is named.
 use Rattle.std.specs.Prelude.{◌≡◌, ℕ, ◌+◌, ◌*◌, ◌/◌, ◌%◌, ◌==◌, Bool, true, false, if◌then◌else◌, not, List, [], ◌∷◌, ◌++◌, filter, Option, Some, None, IsSome, IsNone}
 use prog.Atomic.{either}
-use Rattle.interleavings.specs.declared.acts.Acts.{Acts}
-use Rattle.interleavings.specs.declared.acts.HeldTurn.{HeldTurn}
-use Rattle.interleavings.specs.declared.acts.OddLooks.{OddLooks}
-use Rattle.interleavings.specs.declared.acts.Phase.{Phase}
-use Rattle.interleavings.specs.declared.acts.Phase.TheVariants.{Idle, Loaded, Numbered, Marked, Fetched, Stored, Looked}
-use Rattle.interleavings.specs.declared.acts.SeenNumber.{SeenNumber}
-use Rattle.interleavings.specs.declared.acts.Tally.{Tally}
+use Rattle.interleavings.specs.declared.activity.Activity.{Activity}
+use Rattle.interleavings.specs.declared.activity.HeldTurn.{HeldTurn}
+use Rattle.interleavings.specs.declared.activity.OddLooks.{OddLooks}
+use Rattle.interleavings.specs.declared.activity.Phase.{Phase}
+use Rattle.interleavings.specs.declared.activity.Phase.TheVariants.{Idle, Loaded, Numbered, Marked, Fetched, Stored, Looked}
+use Rattle.interleavings.specs.declared.activity.SeenNumber.{SeenNumber}
+use Rattle.interleavings.specs.declared.activity.Tally.{Tally}
 use Rattle.interleavings.specs.declared.event.Event.{Event}
 use Rattle.interleavings.specs.declared.event.Event.TheVariants as events
 use Rattle.interleavings.specs.declared.kind.Kind.{Kind}
@@ -126,23 +126,23 @@ held_turn monitor (h ∷ held) = if h.mon == monitor then Some h.turn else held_
 
 -- a draw is made without a name, and the first step of a read, a write, an update or an entry with one; only a monitor that
 -- is held is left
-abbrev pub Suits : Kind → ℕ → Acts → Type 0
-Suits by.ValueLoad at acts = IsSome acts.name
-Suits by.NumberLoad at acts = Unit {0}
-Suits by.SeeNumber at acts = IsSome acts.name
-Suits by.Claim at acts = Unit {0}
-Suits by.Fetch at acts = Unit {0}
-Suits by.Put at acts = Unit {0}
-Suits by.Complete at acts = Unit {0}
-Suits by.Look at acts = IsSome acts.name
-Suits by.Enter at acts = Unit {0}
-Suits by.Leave at acts = IsSome (held_turn at acts.held)
-Suits by.Draw at acts = IsNone acts.name
+abbrev pub Suits : Kind → ℕ → Activity → Type 0
+Suits by.ValueLoad at activity = IsSome activity.name
+Suits by.NumberLoad at activity = Unit {0}
+Suits by.SeeNumber at activity = IsSome activity.name
+Suits by.Claim at activity = Unit {0}
+Suits by.Fetch at activity = Unit {0}
+Suits by.Put at activity = Unit {0}
+Suits by.Complete at activity = Unit {0}
+Suits by.Look at activity = IsSome activity.name
+Suits by.Enter at activity = Unit {0}
+Suits by.Leave at activity = IsSome (held_turn at activity.held)
+Suits by.Draw at activity = IsNone activity.name
 
 -- the step may be made
-pub record May (kind : Kind) (at : ℕ) (acts : Acts) : Type 0 where
-  pub begins : Begins kind at acts.phase
-  pub suits : Suits kind at acts
+pub record May (kind : Kind) (at : ℕ) (activity : Activity) : Type 0 where
+  pub begins : Begins kind at activity.phase
+  pub suits : Suits kind at activity
 
 -- half of the number that a writer saw
 abbrev pub number_in : Phase → ℕ
@@ -174,18 +174,18 @@ is_even word = word % 2 == 0
 
 -- the word after the step, by what it stores and the word that it met; a claim and an entry exchange the word that was seen
 -- for the next one
-abbrev pub word_after : Kind → ℕ → ℕ → Acts → ℕ → ℕ
-word_after by.ValueLoad at value acts met = met
-word_after by.NumberLoad at value acts met = met
-word_after by.SeeNumber at value acts met = met
-word_after by.Claim at value acts met = either (met == 2 * number_in acts.phase) (2 * number_in acts.phase + 1) met
-word_after by.Fetch at value acts met = met
-word_after by.Put at value acts met = value
-word_after by.Complete at value acts met = 2 * number_in acts.phase + 2
-word_after by.Look at value acts met = met
-word_after by.Enter at value acts met = either (met == 2 * turn_in acts.phase) (2 * turn_in acts.phase + 1) met
-word_after by.Leave at value acts met = 2 * turn_or_zero (held_turn at acts.held)
-word_after by.Draw at value acts met = met + 1
+abbrev pub word_after : Kind → ℕ → ℕ → Activity → ℕ → ℕ
+word_after by.ValueLoad at value activity met = met
+word_after by.NumberLoad at value activity met = met
+word_after by.SeeNumber at value activity met = met
+word_after by.Claim at value activity met = either (met == 2 * number_in activity.phase) (2 * number_in activity.phase + 1) met
+word_after by.Fetch at value activity met = met
+word_after by.Put at value activity met = value
+word_after by.Complete at value activity met = 2 * number_in activity.phase + 2
+word_after by.Look at value activity met = met
+word_after by.Enter at value activity met = either (met == 2 * turn_in activity.phase) (2 * turn_in activity.phase + 1) met
+word_after by.Leave at value activity met = 2 * turn_or_zero (held_turn at activity.held)
+word_after by.Draw at value activity met = met + 1
 
 -- the event of a reader that has loaded the value, with this bound
 abbrev pub ended_read : Phase → ℕ → Option Event
@@ -219,18 +219,18 @@ entered_if true monitor turn = Some (events.Enter monitor turn)
 entered_if false monitor turn = None
 
 -- the event that the step finishes, if it finishes one
-abbrev pub finished_by : Kind → ℕ → Acts → ℕ → Option Event
-finished_by by.ValueLoad at acts met = None
-finished_by by.NumberLoad at acts met = read_if (is_even met) acts.phase (met / 2)
-finished_by by.SeeNumber at acts met = None
-finished_by by.Claim at acts met = None
-finished_by by.Fetch at acts met = None
-finished_by by.Put at acts met = None
-finished_by by.Complete at acts met = completed acts.phase
-finished_by by.Look at acts met = None
-finished_by by.Enter at acts met = entered_if (met == 2 * turn_in acts.phase) at (turn_in acts.phase + 1)
-finished_by by.Leave at acts met = Some (events.Exit at (turn_or_zero (held_turn at acts.held)))
-finished_by by.Draw at acts met = None
+abbrev pub finished_by : Kind → ℕ → Activity → ℕ → Option Event
+finished_by by.ValueLoad at activity met = None
+finished_by by.NumberLoad at activity met = read_if (is_even met) activity.phase (met / 2)
+finished_by by.SeeNumber at activity met = None
+finished_by by.Claim at activity met = None
+finished_by by.Fetch at activity met = None
+finished_by by.Put at activity met = None
+finished_by by.Complete at activity met = completed activity.phase
+finished_by by.Look at activity met = None
+finished_by by.Enter at activity met = entered_if (met == 2 * turn_in activity.phase) at (turn_in activity.phase + 1)
+finished_by by.Leave at activity met = Some (events.Exit at (turn_or_zero (held_turn at activity.held)))
+finished_by by.Draw at activity met = None
 
 -- the events with one more at their end, if there is one
 abbrev pub with_event : List Event → Option Event → List Event
@@ -344,13 +344,13 @@ looks_after by.Leave at row met = row
 looks_after by.Draw at row met = row
 
 -- what the thread does after the step
-abbrev pub acts_after : Kind → ℕ → ℕ → Acts → ℕ → Acts
-acts_after kind at value acts met = record {
-  name = name_after kind acts.name met;
-  phase = phase_after kind at value acts.phase met;
-  events = with_event acts.events (finished_by kind at acts met);
-  held = held_after kind at acts.phase acts.held met;
-  looks = looks_after kind at acts.looks met;
+abbrev pub activity_after : Kind → ℕ → ℕ → Activity → ℕ → Activity
+activity_after kind at value activity met = record {
+  name = name_after kind activity.name met;
+  phase = phase_after kind at value activity.phase met;
+  events = with_event activity.events (finished_by kind at activity met);
+  held = held_after kind at activity.phase activity.held met;
+  looks = looks_after kind at activity.looks met;
 }
 
 -- the cell or the monitor of a word; the count of names is of none

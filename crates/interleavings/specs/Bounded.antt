@@ -1,9 +1,9 @@
 -- Bounds on the numbers of a history by its length.
 use Rattle.std.specs.Prelude.{ℕ, ◌+◌, ◌*◌, ◌≤◌, List, [], ◌∷◌, Option, Some, None}
-use Rattle.interleavings.specs.declared.acts.Acts.{Acts}
-use Rattle.interleavings.specs.declared.acts.HeldTurn.{HeldTurn}
-use Rattle.interleavings.specs.declared.acts.OddLooks.{OddLooks}
-use Rattle.interleavings.specs.declared.acts.Phase.{Phase}
+use Rattle.interleavings.specs.declared.activity.Activity.{Activity}
+use Rattle.interleavings.specs.declared.activity.HeldTurn.{HeldTurn}
+use Rattle.interleavings.specs.declared.activity.OddLooks.{OddLooks}
+use Rattle.interleavings.specs.declared.activity.Phase.{Phase}
 use Rattle.interleavings.specs.AtomicStep.{SharedWord, Drawn, Value, Number, Monitor, number_in, turn_in}
 use Rattle.interleavings.specs.History.{State}
 
@@ -30,12 +30,12 @@ AreLooksWithin n None = Unit {0}
 AreLooksWithin n (Some row) = row.count ≤ n
 
 -- the numbers of what a thread does are n at most
-pub record AreActsWithin (n : ℕ) (acts : Acts) : Type 0 where
-  pub phase : IsPhaseWithin n acts.phase
-  pub held : AreTurnsWithin n acts.held
-  pub looks : AreLooksWithin n acts.looks
+pub record IsActivityWithin (n : ℕ) (activity : Activity) : Type 0 where
+  pub phase : IsPhaseWithin n activity.phase
+  pub held : AreTurnsWithin n activity.held
+  pub looks : AreLooksWithin n activity.looks
 
 -- the numbers of the state are those that n steps can lead to
 pub record IsStateWithin (n : ℕ) (st : State) : Type 0 where
   pub words : (word : SharedWord) → IsWordWithin n word (st.words word)
-  pub people : (who : ℕ) → AreActsWithin n (st.people who).acts
+  pub people : (who : ℕ) → IsActivityWithin n (st.people who).activity

@@ -1,7 +1,7 @@
 -- The machine of `drive` beside the state that it shows. Only private clauses cite this module.
 use Rattle.std.specs.Prelude.{◌≡◌, ℕ, ◌<◌, length, slice_index, slice_index_or}
 use Rattle.interleavings.specs.declared.limits.TheConstants.{STEP_LIMIT}
-use Rattle.interleavings.specs.declared.acts.Acts.{Acts}
+use Rattle.interleavings.specs.declared.activity.Activity.{Activity}
 use Rattle.interleavings.specs.declared.core_state.Core.{Core}
 use Rattle.interleavings.specs.declared.step_words.AtomicStep.{AtomicStep}
 use Rattle.interleavings.specs.AtomicStep.{SharedWord, word_of}
@@ -12,7 +12,7 @@ use Rattle.interleavings.specs.Layout.{index_of, row_length, IsInRow}
 -- the core shows the words of the state that its row has, and what the threads do that it has
 pub record ShowsState (core : Core) (st : State) : Type 0 where
   pub words : (word : SharedWord) → IsInRow core.layout.cells core.layout.monitors word → slice_index core.words.items (index_of core.layout.cells word) ≡ st.words word
-  pub people : (who : ℕ) (d : Acts) → who < length core.people.items → slice_index_or core.people.items who d ≡ (st.people who).acts
+  pub people : (who : ℕ) (d : Activity) → who < length core.people.items → slice_index_or core.people.items who d ≡ (st.people who).activity
 
 -- the core's row is as long as its layout says
 abbrev pub HasWholeRow : Core → Type 0

@@ -9,9 +9,9 @@ use Rattle.sc_machine.specs.declared.stop.Stop.{Stop}
 use Rattle.sc_machine.specs.declared.stop.Stop.TheVariants as stops
 use Rattle.sc_machine.specs.ThreadStep.{Thread, start_thread, settled, stop_of, end_of}
 use Rattle.sc_machine.specs.Schedule.{stopped, thread_numbers}
-use Rattle.interleavings.specs.declared.acts.OddLooks.{OddLooks}
-use Rattle.interleavings.specs.declared.acts.Phase.{Phase}
-use Rattle.interleavings.specs.declared.acts.Phase.TheVariants.{Idle, Loaded, Numbered, Marked, Fetched, Stored, Looked}
+use Rattle.interleavings.specs.declared.activity.OddLooks.{OddLooks}
+use Rattle.interleavings.specs.declared.activity.Phase.{Phase}
+use Rattle.interleavings.specs.declared.activity.Phase.TheVariants.{Idle, Loaded, Numbered, Marked, Fetched, Stored, Looked}
 use Rattle.interleavings.specs.declared.event.Event.{Event}
 use Rattle.interleavings.specs.declared.kind.Kind.{Kind}
 use Rattle.interleavings.specs.declared.kind.Kind.TheVariants as by
@@ -21,7 +21,7 @@ use Rattle.interleavings.specs.AtomicStep.{Value, word_of, finished_by}
 use Rattle.interleavings.specs.Events.{log_of}
 use Rattle.interleavings.specs.EventStep.{after_event}
 use Rattle.interleavings.specs.History.{State, Step}
-use Rattle.interleavings.specs.Recording.{Setting, Recording, state_of, acts_of, gives_up}
+use Rattle.interleavings.specs.Recording.{Setting, Recording, state_of, activity_of, gives_up}
 use Rattle.interleavings.specs.Walking.{is_exit}
 
 -- a run of the program under way: its atomic steps so far, the last of them first, and its threads
@@ -118,7 +118,7 @@ next_step t stop phase =
 
 -- the event that a step finishes in this state, if it finishes one
 abbrev pub finished_in : State → Step → Option Event
-finished_in st s = finished_by s.kind s.at (st.people s.who).acts (st.words (word_of s.kind s.at))
+finished_in st s = finished_by s.kind s.at (st.people s.who).activity (st.words (word_of s.kind s.at))
 
 -- the thread after a step of its own, which may have finished an event; where its row of odd looks reached the patience, it
 -- ends as stopped
@@ -130,7 +130,7 @@ thread_after g t None row s = if gives_up g.patience row then stopped s else s
 abbrev pub stepped : Setting → Step → Drive → Drive
 stepped g step d = record {
   steps = step ∷ d.steps;
-  threads = slice_set d.threads step.who (thread_after g step.who (finished_in (state_of g d.steps) step) (acts_of g (step ∷ d.steps) step.who).looks (thread_of d step.who));
+  threads = slice_set d.threads step.who (thread_after g step.who (finished_in (state_of g d.steps) step) (activity_of g (step ∷ d.steps) step.who).looks (thread_of d step.who));
 }
 
 -- the same where there is a step
@@ -140,7 +140,7 @@ stepped_if g (Some step) d = stepped g step d
 
 -- the run after one atomic step of a thread, if it has not ended
 unfoldable pub advance : Setting → ℕ → Drive → Drive
-advance g t d = stepped_if g (next_step t (stop_of g.program t (thread_of d t)) (acts_of g d.steps t).phase) d
+advance g t d = stepped_if g (next_step t (stop_of g.program t (thread_of d t)) (activity_of g d.steps t).phase) d
 
 -- the run after one step of each thread of the list in turn
 unfoldable pub advance_all : Setting → List ℕ → Drive → Drive
@@ -182,8 +182,8 @@ is_loaded (Looked monitor turn) = false
 -- whether a thread has this left: a write or an update that it has claimed, a read whose number it has not found even yet, or
 -- an exit at which it stands
 abbrev pub is_left : Rest → Setting → ℕ → Drive → Bool
-is_left rests.Write g t d = has_claimed (acts_of g d.steps t).phase
-is_left rests.Read g t d = is_loaded (acts_of g d.steps t).phase
+is_left rests.Write g t d = has_claimed (activity_of g d.steps t).phase
+is_left rests.Read g t d = is_loaded (activity_of g d.steps t).phase
 is_left rests.Exits g t d = is_exit (stop_of g.program t (thread_of d t))
 
 -- up to n steps of a thread, as long as it has this left
@@ -217,7 +217,7 @@ whole_run g order =
 -- the recording of a run
 unfoldable pub recording_of : Setting → Drive → Recording
 recording_of g d = record {
-  logs = map (λ t. log_of (acts_of g d.steps t).events) (thread_numbers g.program);
+  logs = map (λ t. log_of (activity_of g d.steps t).events) (thread_numbers g.program);
   outputs = map (λ (s : Thread). s.out) d.threads;
   ends = map end_of d.threads;
   last_values = map (λ cell. (state_of g d.steps).words (Value cell)) (range_with_len 0 (cell_count g.program.decls));

@@ -12,7 +12,7 @@ use Rattle.interleavings.specs.EventStep.{after_event}
 use Rattle.interleavings.specs.Events.{log_of}
 use Rattle.interleavings.specs.Following.{Followed, no_turns, follow}
 use Rattle.interleavings.specs.Walking.{is_exit, Walks}
-use Rattle.interleavings.specs.Recording.{Setting, acts_of, gives_up, GaveUpAt, IsHistoryOf, IsFollowed, IsRecording}
+use Rattle.interleavings.specs.Recording.{Setting, activity_of, gives_up, GaveUpAt, IsHistoryOf, IsFollowed, IsRecording}
 use Rattle.interleavings.specs.Driving.{advance_all, begun, settle_all, is_left, driven, whole_run, stranger}
 
 -- the recording that an order of the program's threads gives is that of its run's steps, which are a history, and after
@@ -32,11 +32,11 @@ DrivenIsShort = (g : Setting) (order : List ℕ) → 1 ≤ g.fuel → stranger (
 -- a thread whose row of odd looks has reached the patience ended as stopped; with some patience it did so at the entry into
 -- the monitor of that row, as soon as the row was that long
 abbrev pub DrivenGivesUp : Type 0
-DrivenGivesUp = (g : Setting) (order : List ℕ) → stranger (length g.program.threads) order ≡ None → (t : ℕ) → t < length g.program.threads → gives_up g.patience (acts_of g (whole_run g order).steps t).looks ≡ true → (pc : ℕ) × (slice_get (driven g order).ends t ≡ Some (Stopped pc)) × (1 ≤ g.patience → GaveUpAt g t (acts_of g (whole_run g order).steps t).looks pc)
+DrivenGivesUp = (g : Setting) (order : List ℕ) → stranger (length g.program.threads) order ≡ None → (t : ℕ) → t < length g.program.threads → gives_up g.patience (activity_of g (whole_run g order).steps t).looks ≡ true → (pc : ℕ) × (slice_get (driven g order).ends t ≡ Some (Stopped pc)) × (1 ≤ g.patience → GaveUpAt g t (activity_of g (whole_run g order).steps t).looks pc)
 
 -- where each thread that was stopped had given up, so that none was left waiting, what an order gives is a recording
 abbrev pub DrivenIsARecording : Type 0
-DrivenIsARecording = (g : Setting) (order : List ℕ) → 1 ≤ g.patience → stranger (length g.program.threads) order ≡ None → ((t pc : ℕ) → slice_get (driven g order).ends t ≡ Some (Stopped pc) → gives_up g.patience (acts_of g (whole_run g order).steps t).looks ≡ true) → IsRecording g (driven g order)
+DrivenIsARecording = (g : Setting) (order : List ℕ) → 1 ≤ g.patience → stranger (length g.program.threads) order ≡ None → ((t pc : ℕ) → slice_get (driven g order).ends t ≡ Some (Stopped pc) → gives_up g.patience (activity_of g (whole_run g order).steps t).looks ≡ true) → IsRecording g (driven g order)
 
 -- once a run has settled, no thread of the program has anything left, so the bound on the steps of settling is never met
 abbrev pub NothingIsLeft : Type 0

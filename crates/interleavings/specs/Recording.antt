@@ -7,10 +7,10 @@ use Rattle.sc_machine.specs.declared.end.End.{End}
 use Rattle.sc_machine.specs.declared.end.End.TheVariants.{Halted, Trapped, OutOfSteps, Stopped}
 use Rattle.sc_machine.specs.Schedule.{thread_numbers}
 use Rattle.sc_machine.specs.ThreadStep.{end_of}
-use Rattle.interleavings.specs.declared.acts.Acts.{Acts}
-use Rattle.interleavings.specs.declared.acts.OddLooks.{OddLooks}
-use Rattle.interleavings.specs.declared.acts.Phase.{Phase}
-use Rattle.interleavings.specs.declared.acts.Phase.TheVariants.{Idle, Loaded, Numbered, Marked, Fetched, Stored, Looked}
+use Rattle.interleavings.specs.declared.activity.Activity.{Activity}
+use Rattle.interleavings.specs.declared.activity.OddLooks.{OddLooks}
+use Rattle.interleavings.specs.declared.activity.Phase.{Phase}
+use Rattle.interleavings.specs.declared.activity.Phase.TheVariants.{Idle, Loaded, Numbered, Marked, Fetched, Stored, Looked}
 use Rattle.interleavings.specs.declared.event.LogEntry.{LogEntry}
 use Rattle.interleavings.specs.AtomicStep.{Value}
 use Rattle.interleavings.specs.Events.{log_of}
@@ -29,8 +29,8 @@ abbrev pub state_of : Setting → List Step → State
 state_of g steps = after (starts_of g.program.decls) steps
 
 -- what a thread has done and is doing
-abbrev pub acts_of : Setting → List Step → ℕ → Acts
-acts_of g steps t = ((state_of g steps).people t).acts
+abbrev pub activity_of : Setting → List Step → ℕ → Activity
+activity_of g steps t = ((state_of g steps).people t).activity
 
 -- whether a row of odd looks has reached the patience
 abbrev pub gives_up : ℕ → Option OddLooks → Bool
@@ -64,8 +64,8 @@ Among s (other ∷ steps) = (s ≡ other) ⊎ Among s steps
 pub record IsHistoryOf (g : Setting) (recording : Recording) (steps : List Step) : Type 0 where
   pub lawful : IsHistory (starts_of g.program.decls) steps
   pub threads : (s : Step) → Among s steps → s.who < length g.program.threads
-  pub logs : recording.logs ≡ map (λ t. log_of (acts_of g steps t).events) (thread_numbers g.program)
-  pub at_rest : (t : ℕ) → IsAtRest (acts_of g steps t).phase
+  pub logs : recording.logs ≡ map (λ t. log_of (activity_of g steps t).events) (thread_numbers g.program)
+  pub at_rest : (t : ℕ) → IsAtRest (activity_of g steps t).phase
   pub last_values : recording.last_values ≡ map (λ cell. (state_of g steps).words (Value cell)) (range_with_len 0 (cell_count g.program.decls))
 
 -- following the logs of a recording gives the events that these steps finished, and the outputs and the ends of the
@@ -73,7 +73,7 @@ pub record IsHistoryOf (g : Setting) (recording : Recording) (steps : List Step)
 pub record IsFollowed (g : Setting) (recording : Recording) (steps : List Step) : Type 0 where
   pub followed : List Followed
   pub follows : follow_all g.program g.fuel recording.logs ≡ Ok followed
-  pub events : map (λ (f : Followed). f.events) followed ≡ map (λ t. (acts_of g steps t).events) (thread_numbers g.program)
+  pub events : map (λ (f : Followed). f.events) followed ≡ map (λ t. (activity_of g steps t).events) (thread_numbers g.program)
   pub outputs : map (λ (f : Followed). f.thread.out) followed ≡ recording.outputs
   pub ends : map (λ (f : Followed). end_of f.thread) followed ≡ recording.ends
 
@@ -96,4 +96,4 @@ pub record IsRecording (g : Setting) (recording : Recording) : Type 0 where
   pub steps : List Step
   pub history : IsHistoryOf g recording steps
   pub followed : IsFollowed g recording steps
-  pub ends : (t : ℕ) (end : End) → slice_get recording.ends t ≡ Some end → IsEndAfter g t (acts_of g steps t).looks end
+  pub ends : (t : ℕ) (end : End) → slice_get recording.ends t ≡ Some end → IsEndAfter g t (activity_of g steps t).looks end

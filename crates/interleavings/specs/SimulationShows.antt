@@ -7,7 +7,7 @@ use Rattle.sc_machine.specs.declared.stop.Stop.{Stop}
 use Rattle.sc_machine.specs.StandingThread.{IsThreadOf, Standing}
 use Rattle.sc_machine.specs.ThreadRun.{TakesWord}
 use Rattle.interleavings.specs.declared.limits.TheConstants.{STEP_LIMIT}
-use Rattle.interleavings.specs.declared.acts.OddLooks.{OddLooks}
+use Rattle.interleavings.specs.declared.activity.OddLooks.{OddLooks}
 use Rattle.interleavings.specs.declared.core_state.Core.{Core}
 use Rattle.interleavings.specs.declared.event.Event.{Event}
 use Rattle.interleavings.specs.declared.simulation.Simulation.{Simulation}

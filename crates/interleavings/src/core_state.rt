@@ -3,10 +3,10 @@ ghost use Rattle.std.specs.Prelude.{◌≡◌, OnOk, IfOk};
 ghost use Rattle.interleavings.specs.History.{State, happens};
 ghost use Rattle.interleavings.specs.Driving.{finished_in};
 
-use crate::acts::Acts;
+use crate::activity::Activity;
 use crate::event::Event;
 use crate::layout::Layout;
-use crate::step_effects::step_acts;
+use crate::step_effects::step_activity;
 use crate::step_words::{AtomicStep, new_word};
 use stride_base::NoMemory;
 
@@ -15,7 +15,7 @@ use stride_base::NoMemory;
 pub struct Core {
     pub layout: Layout,
     pub words: Vec<u64>,
-    pub people: Vec<Acts>,
+    pub people: Vec<Activity>,
 }
 
 impl Core {
@@ -30,8 +30,8 @@ impl Core {
     {
         let place = self.layout.word_of(step.kind, step.at);
         let met = self.words[place];
-        let acts = &mut self.people[step.who as usize];
-        self.words[place] = new_word(step, acts, met);
-        step_acts(acts, step, met)
+        let activity = &mut self.people[step.who as usize];
+        self.words[place] = new_word(step, activity, met);
+        step_activity(activity, step, met)
     }
 }

@@ -5,7 +5,7 @@ ghost use Rattle.sc_machine.specs.ThreadRun.{IsShared};
 ghost use Rattle.interleavings.specs.SimulationShows.{SuitsStop, gone_on};
 ghost use Rattle.interleavings.specs.Recording.{gives_up as has_no_patience};
 
-use crate::acts::OddLooks;
+use crate::activity::OddLooks;
 use crate::event::Event;
 use sc_machine::StandingThread;
 

@@ -7,7 +7,7 @@
 //! The layer above may rely on this: `drive` gives exactly that recording, and an event of `Traces` is seen by `at` alone.
 #![tactic(auto)]
 
-mod acts;
+mod activity;
 mod core_state;
 mod driven;
 mod driven_thread;
@@ -25,7 +25,7 @@ mod step_effects;
 mod step_words;
 mod traces;
 
-pub use acts::{Acts, HeldTurn, LastStep, OddLooks, Phase, SeenNumber, Tally};
+pub use activity::{Activity, HeldTurn, LastStep, OddLooks, Phase, SeenNumber, Tally};
 pub use driven::{DriveError, Driven, drive};
 pub use event::{Event, LogEntry, entry_of};
 pub use kind::Kind;

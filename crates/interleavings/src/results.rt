@@ -7,7 +7,7 @@ ghost use Rattle.interleavings.specs.CoreShows.{HasWholeRow};
 ghost use Rattle.interleavings.specs.Events.{log_of as log};
 ghost use Rattle.interleavings.specs.Layout.{index_of};
 
-use crate::acts::Acts;
+use crate::activity::Activity;
 use crate::core_state::Core;
 use crate::event::{Event, LogEntry, entry_of};
 use sc_machine::{End, StandingThread};
@@ -30,12 +30,12 @@ fn log_of(alloc: Global, events: &LinkedList<Event>) -> Result<List<LogEntry>, N
 }
 
 /// Each thread's log, in order of number.
-pub fn logs_of(alloc: Global, people: &[Acts]) -> Result<List<List<LogEntry>>, NoMemory>
-    ensures { IfOk result (λ logs. map (λ entries. entries.items) logs.items ≡ map (λ acts. log acts.events) people.now) }
+pub fn logs_of(alloc: Global, people: &[Activity]) -> Result<List<List<LogEntry>>, NoMemory>
+    ensures { IfOk result (λ logs. map (λ entries. entries.items) logs.items ≡ map (λ activity. log activity.events) people.now) }
 {
     let mut logs = List::new(alloc);
-    for acts in people {
-        logs.push(log_of(alloc, &acts.events)?)?;
+    for activity in people {
+        logs.push(log_of(alloc, &activity.events)?)?;
     }
     Ok(logs)
 }

@@ -10,7 +10,7 @@ ghost use Rattle.interleavings.specs.History.{after, newcomer, start_words};
 ghost use Rattle.interleavings.specs.Layout.{index_of, row_length, IsInRow};
 ghost use Rattle.interleavings.specs.Driving.{begun, draws};
 
-use crate::acts::{Acts, Phase};
+use crate::activity::{Activity, Phase};
 use crate::core_state::Core;
 use crate::kind::Kind;
 use crate::layout::Layout;
@@ -37,13 +37,13 @@ fn starting_words(alloc: Global, program: &Checked, layout: Layout) -> Result<Ve
 }
 
 // Threads that have done nothing.
-fn newcomers(alloc: Global, threads: u32) -> Result<Vec<Acts>, NoMemory>
+fn newcomers(alloc: Global, threads: u32) -> Result<Vec<Activity>, NoMemory>
     ensures count { IfOk result (λ people. length people.items ≡ threads) }
-    ensures each { IfOk result (λ people. (who : ℕ) (d : Acts) → who < threads → slice_index_or people.items who d ≡ newcomer.acts) }
+    ensures each { IfOk result (λ people. (who : ℕ) (d : Activity) → who < threads → slice_index_or people.items who d ≡ newcomer.activity) }
 {
     let mut people = Vec::new(alloc);
     for _who in 0..threads {
-        people.push(Acts {
+        people.push(Activity {
             name: None,
             phase: Phase::Idle,
             events: LinkedList::new(alloc),

@@ -7,7 +7,7 @@ ghost use Rattle.interleavings.specs.Driving.{next_kind as kind_next, next_step 
 ghost use Rattle.interleavings.specs.Driving.{has_claimed as is_under_way, is_loaded as has_loaded};
 ghost use Rattle.interleavings.specs.Walking.{is_exit as stands_at_exit};
 
-use crate::acts::Phase;
+use crate::activity::Phase;
 use crate::kind::Kind;
 use crate::step_words::AtomicStep;
 use sc_machine::Stop;

@@ -1,11 +1,11 @@
 //! What an atomic step does to the thread that makes it.
 ghost use Rattle.std.specs.Prelude.{◌≡◌, ◌==◌, ◌++◌, not, filter, take, drop, OnOk, IfOk};
-ghost use Rattle.interleavings.specs.AtomicStep.{word_of, phase_after, name_after, looks_after, held_after, with_event, acts_after};
+ghost use Rattle.interleavings.specs.AtomicStep.{word_of, phase_after, name_after, looks_after, held_after, with_event, activity_after};
 ghost use Rattle.interleavings.specs.AtomicStep.{marked as phase_marked, fetched as phase_fetched, stored as phase_stored, phase_if as either_phase};
 ghost use Rattle.interleavings.specs.AtomicStep.{one_more as longer_row, finished_by as event_of};
-ghost use Rattle.interleavings.specs.Bounded.{IsWordWithin, IsPhaseWithin, AreLooksWithin, AreActsWithin};
+ghost use Rattle.interleavings.specs.Bounded.{IsWordWithin, IsPhaseWithin, AreLooksWithin, IsActivityWithin};
 
-use crate::acts::{Acts, HeldTurn, OddLooks, Phase};
+use crate::activity::{Activity, HeldTurn, OddLooks, Phase};
 use crate::event::Event;
 use crate::kind::Kind;
 use crate::limits::STEP_LIMIT;
@@ -248,17 +248,17 @@ fn append(events: &mut LinkedList<Event>, event: Option<Event>) -> Result<(), No
 }
 
 /// Changes what the thread does, as the step that met this word does, and tells the event that it finishes, if there is one.
-pub fn step_acts(acts: &mut Acts, step: AtomicStep, met: u64) -> Result<Option<Event>, NoMemory>
+pub fn step_activity(activity: &mut Activity, step: AtomicStep, met: u64) -> Result<Option<Event>, NoMemory>
     requires met { IsWordWithin STEP_LIMIT (word_of step.kind step.at) met }
-    requires acts { AreActsWithin STEP_LIMIT acts.old }
-    ensures acts { OnOk result (acts.new ≡ acts_after step.kind step.at step.value acts.old met) }
-    ensures finished { IfOk result (λ event. event ≡ event_of step.kind step.at acts.old met) }
+    requires activity { IsActivityWithin STEP_LIMIT activity.old }
+    ensures activity { OnOk result (activity.new ≡ activity_after step.kind step.at step.value activity.old met) }
+    ensures finished { IfOk result (λ event. event ≡ event_of step.kind step.at activity.old met) }
 {
-    let finished = finished_by(step, acts, met);
-    append(&mut acts.events, finished)?;
-    hold(&mut acts.held, step, acts.phase, met)?;
-    acts.name = new_name(step, acts.name, met);
-    acts.looks = new_looks(step, acts.looks, met);
-    acts.phase = new_phase(step, acts.phase, met);
+    let finished = finished_by(step, activity, met);
+    append(&mut activity.events, finished)?;
+    hold(&mut activity.held, step, activity.phase, met)?;
+    activity.name = new_name(step, activity.name, met);
+    activity.looks = new_looks(step, activity.looks, met);
+    activity.phase = new_phase(step, activity.phase, met);
     Ok(finished)
 }

@@ -6,7 +6,7 @@ ghost use Rattle.interleavings.specs.AtomicStep.{number_in as half_number, turn_
 ghost use Rattle.interleavings.specs.AtomicStep.{read_if as event_of_read, completed as event_of_writer, entered_if as event_of_entry, finished_by as event_of};
 ghost use Rattle.interleavings.specs.Bounded.{IsWordWithin, IsPhaseWithin};
 
-use crate::acts::{Acts, HeldTurn, Phase};
+use crate::activity::{Activity, HeldTurn, Phase};
 use crate::event::Event;
 use crate::kind::Kind;
 use crate::limits::STEP_LIMIT;
@@ -77,18 +77,18 @@ fn exchanged(half: u32, met: u64) -> u64
 }
 
 /// The word after the step.
-pub fn new_word(step: AtomicStep, acts: &Acts, met: u64) -> u64
+pub fn new_word(step: AtomicStep, activity: &Activity, met: u64) -> u64
     requires met { IsWordWithin STEP_LIMIT (word_of step.kind step.at) met }
-    requires phase { IsPhaseWithin STEP_LIMIT acts.now.phase }
-    ensures { result ≡ word_after step.kind step.at step.value acts.now met }
+    requires phase { IsPhaseWithin STEP_LIMIT activity.now.phase }
+    ensures { result ≡ word_after step.kind step.at step.value activity.now met }
 {
     match step.kind {
         Kind::ValueLoad | Kind::NumberLoad | Kind::SeeNumber | Kind::Fetch | Kind::Look => met,
-        Kind::Claim => exchanged(number_in(acts.phase), met),
+        Kind::Claim => exchanged(number_in(activity.phase), met),
         Kind::Put => step.value,
-        Kind::Complete => 2 * u64::from(number_in(acts.phase)) + 2,
-        Kind::Enter => exchanged(turn_in(acts.phase), met),
-        Kind::Leave => 2 * u64::from(held_turn_of(&acts.held, step.at)),
+        Kind::Complete => 2 * u64::from(number_in(activity.phase)) + 2,
+        Kind::Enter => exchanged(turn_in(activity.phase), met),
+        Kind::Leave => 2 * u64::from(held_turn_of(&activity.held, step.at)),
         Kind::Draw => met + 1,
     }
 }
@@ -159,21 +159,21 @@ fn entered_if(was_free: bool, mon: u32, turn: u32) -> Option<Event>
 }
 
 /// The event that the step finishes, if it finishes one.
-pub fn finished_by(step: AtomicStep, acts: &Acts, met: u64) -> Option<Event>
+pub fn finished_by(step: AtomicStep, activity: &Activity, met: u64) -> Option<Event>
     requires met { IsWordWithin STEP_LIMIT (word_of step.kind step.at) met }
-    requires phase { IsPhaseWithin STEP_LIMIT acts.now.phase }
-    ensures { result ≡ event_of step.kind step.at acts.now met }
+    requires phase { IsPhaseWithin STEP_LIMIT activity.now.phase }
+    ensures { result ≡ event_of step.kind step.at activity.now met }
 {
     match step.kind {
-        Kind::NumberLoad => read_if(is_even(met), acts.phase, (met / 2) as u32),
-        Kind::Complete => completed(acts.phase),
+        Kind::NumberLoad => read_if(is_even(met), activity.phase, (met / 2) as u32),
+        Kind::Complete => completed(activity.phase),
         Kind::Enter => {
-            let turn = turn_in(acts.phase);
+            let turn = turn_in(activity.phase);
             entered_if(met == 2 * u64::from(turn), step.at, turn + 1)
         }
         Kind::Leave => Some(Event::Exit {
             mon: step.at,
-            turn: held_turn_of(&acts.held, step.at),
+            turn: held_turn_of(&activity.held, step.at),
         }),
         Kind::ValueLoad
         | Kind::SeeNumber

@@ -14,7 +14,7 @@ use stride_base::List;
 use stride_base::limits::ORDER_LIMIT;
 use stride_isa::Checked;
 use stride_isa::limits::{FUEL_LIMIT, THREAD_LIMIT};
-use thread_rerun::rerun;
+use thread_rerun::{Rerun, rerun};
 
 /// The bundle of the program that writes 4 and reads it, with its logs.
 const WRITTEN: [u8; 67] =
@@ -107,29 +107,64 @@ fn are_alike<T: PartialEq>(left: &[List<T>], right: &[List<T>]) -> bool {
             .all(|(one, other)| one.as_slice() == other.as_slice())
 }
 
+/// The recording of the sixteen writers in turn, until each has come to its end.
+fn recorded_in_turn(alloc: Global, program: &Checked) -> Result<Driven, Fail> {
+    recording(alloc, program, &in_turn(alloc, 20_000)?)
+}
+
+/// What is read of the bytes of a bundle.
+fn read_back(alloc: Global, bundle: &Bundle) -> Result<Bundle, Fail> {
+    let bytes = bytes_of(alloc, bundle)?;
+    Ok(decode(alloc, bytes.as_slice())?)
+}
+
+/// The threads of a bundle run again by its logs.
+fn run_again(alloc: Global, bundle: &Bundle) -> Result<Rerun, Fail> {
+    let program = program_of(alloc, bundle.text.as_slice())?;
+    Ok(rerun(alloc, &program, FUEL, &bundle.logs)?)
+}
+
 #[test]
-fn many_entries_are_bundled_and_run_again(rt: HostRuntime) -> Result<(), Fail> {
-    let alloc = rt.alloc();
-    let program = program_of(alloc, writers(alloc)?.as_bytes())?;
-    let driven = recording(alloc, &program, &in_turn(alloc, 20_000)?)?;
+fn sixteen_writers_log_each_write_and_a_read(rt: HostRuntime) -> Result<(), Fail> {
+    let program = program_of(rt.alloc(), writers(rt.alloc())?.as_bytes())?;
+    let driven = recorded_in_turn(rt.alloc(), &program)?;
     assert_eq!(rt; driven.logs.len(), 16);
-    for log in driven.logs.as_slice() {
-        assert_eq!(rt; log.len(), 201);
-    }
+    assert!(rt; driven.logs.as_slice().iter().all(|log| log.len() == 201));
     assert!(rt; driven.ends.as_slice() == [End::Halted; 16].as_slice());
-    // The writes go round: the last of 3200 is that of 16 and 15 by the last thread, which reads it.
-    let last = driven.logs.get(15).as_slice().last().copied();
+    Ok(())
+}
+
+// The writes go round: the last of 3200 is that of 16 and 15 by the last thread, which reads it.
+#[test]
+fn the_last_writer_reads_its_own_write(rt: HostRuntime) -> Result<(), Fail> {
+    let program = program_of(rt.alloc(), writers(rt.alloc())?.as_bytes())?;
+    let driven = recorded_in_turn(rt.alloc(), &program)?;
+    let last_log = driven.logs.as_slice().last();
+    let last = last_log.and_then(|log| log.as_slice().last().copied());
     let wanted = LogEntry::Read {
         bound: 3200,
         value: 31,
     };
     assert_eq!(rt; last, Some(wanted));
-    let bundle = bundle_of(alloc, &program, driven.logs)?;
-    let bytes = bytes_of(alloc, &bundle)?;
-    let read_back = decode(alloc, bytes.as_slice())?;
+    Ok(())
+}
+
+#[test]
+fn many_entries_are_bundled_and_read_back(rt: HostRuntime) -> Result<(), Fail> {
+    let program = program_of(rt.alloc(), writers(rt.alloc())?.as_bytes())?;
+    let driven = recorded_in_turn(rt.alloc(), &program)?;
+    let bundle = bundle_of(rt.alloc(), &program, driven.logs)?;
+    let read_back = read_back(rt.alloc(), &bundle)?;
     assert!(rt; are_alike(read_back.logs.as_slice(), bundle.logs.as_slice()));
-    let same_program = program_of(alloc, read_back.text.as_slice())?;
-    let again = rerun(alloc, &same_program, FUEL, &read_back.logs)?;
+    Ok(())
+}
+
+#[test]
+fn many_entries_are_bundled_and_run_again(rt: HostRuntime) -> Result<(), Fail> {
+    let program = program_of(rt.alloc(), writers(rt.alloc())?.as_bytes())?;
+    let driven = recorded_in_turn(rt.alloc(), &program)?;
+    let bundle = bundle_of(rt.alloc(), &program, driven.logs)?;
+    let again = run_again(rt.alloc(), &read_back(rt.alloc(), &bundle)?)?;
     assert!(rt; are_alike(again.outputs.as_slice(), driven.outputs.as_slice()));
     assert!(rt; again.ends.as_slice() == driven.ends.as_slice());
     Ok(())

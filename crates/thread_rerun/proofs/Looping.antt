@@ -103,11 +103,7 @@ suits_shared (stops.Write at word) event suits = tt
 suits_shared (stops.Update at change) event suits = tt
 suits_shared (stops.Enter at) event suits = tt
 suits_shared (stops.Exit at) event suits = tt
-suits_shared (stops.Ended end) (events.Read cell value bound) suits = suits
-suits_shared (stops.Ended end) (events.Write cell value number) suits = suits
-suits_shared (stops.Ended end) (events.Update cell old new number) suits = suits
-suits_shared (stops.Ended end) (events.Enter monitor turn) suits = suits
-suits_shared (stops.Ended end) (events.Exit monitor turn) suits = suits
+suits_shared (stops.Ended end) event suits = suits
 
 -- the place after an event
 place_grows : (event : Event) (place : ℕ) → place_after event place ≤ place + 1

@@ -2,6 +2,7 @@
 use Rattle.std.specs.Prelude.{◌≡◌, ℕ, ◌+◌, ◌-◌, ◌<◌, ◌≤◌, List, [], ◌∷◌, ◌++◌, length, map, drop, replicate, Option, Some, None, Result, Ok, Err, slice_index, slice_set}
 use Rattle.stride_isa.specs.Limits.{monitor_limit}
 use Rattle.stride_isa.specs.Changes.{applied}
+use Rattle.stride_isa.specs.declared.change.Change.{Change}
 use Rattle.stride_isa.specs.Listing.{Listing, cell_count, starts_of}
 use Rattle.sc_machine.specs.declared.stop.Stop.{Stop}
 use Rattle.sc_machine.specs.declared.stop.Stop.TheVariants as stops
@@ -30,8 +31,12 @@ seen_met Off = told.Off
 
 -- an exit names a monitor that a program can have
 abbrev pub HasMonitor : Stop → Type 0
+HasMonitor (stops.Read cell) = Unit {0}
+HasMonitor (stops.Write cell value) = Unit {0}
+HasMonitor (stops.Update cell change) = Unit {0}
+HasMonitor (stops.Enter monitor) = Unit {0}
 HasMonitor (stops.Exit monitor) = monitor < monitor_limit
-HasMonitor stop = Unit {0}
+HasMonitor (stops.Ended end) = Unit {0}
 
 -- a turn that is begun is of a monitor that a program can have
 abbrev pub IsBelow : Option TurnOf → Type 0
@@ -42,19 +47,60 @@ IsBelow (Some begun) = begun.monitor < monitor_limit
 abbrev pub MonitorBelow : Event → Type 0
 MonitorBelow event = IsBelow (entered_by event)
 
+-- the event is a read of this cell
+abbrev pub IsReadOf : ℕ → Event → Type 0
+IsReadOf at (events.Read cell value bound) = cell ≡ at
+IsReadOf at (events.Write cell value number) = ⊥
+IsReadOf at (events.Update cell old new number) = ⊥
+IsReadOf at (events.Enter monitor turn) = ⊥
+IsReadOf at (events.Exit monitor turn) = ⊥
+
+-- a write of this word into it
+abbrev pub IsWriteOf : ℕ → ℕ → Event → Type 0
+IsWriteOf at word (events.Read cell value bound) = ⊥
+IsWriteOf at word (events.Write cell value number) = (cell ≡ at) × (value ≡ word)
+IsWriteOf at word (events.Update cell old new number) = ⊥
+IsWriteOf at word (events.Enter monitor turn) = ⊥
+IsWriteOf at word (events.Exit monitor turn) = ⊥
+
+-- an update of it by this change
+abbrev pub IsUpdateOf : ℕ → Change → Event → Type 0
+IsUpdateOf at change (events.Read cell value bound) = ⊥
+IsUpdateOf at change (events.Write cell value number) = ⊥
+IsUpdateOf at change (events.Update cell old new number) = (cell ≡ at) × (new ≡ applied change old)
+IsUpdateOf at change (events.Enter monitor turn) = ⊥
+IsUpdateOf at change (events.Exit monitor turn) = ⊥
+
+-- an entry into this monitor
+abbrev pub IsEnterOf : ℕ → Event → Type 0
+IsEnterOf at (events.Read cell value bound) = ⊥
+IsEnterOf at (events.Write cell value number) = ⊥
+IsEnterOf at (events.Update cell old new number) = ⊥
+IsEnterOf at (events.Enter monitor turn) = monitor ≡ at
+IsEnterOf at (events.Exit monitor turn) = ⊥
+
+-- an exit from it
+abbrev pub IsExitOf : ℕ → Event → Type 0
+IsExitOf at (events.Read cell value bound) = ⊥
+IsExitOf at (events.Write cell value number) = ⊥
+IsExitOf at (events.Update cell old new number) = ⊥
+IsExitOf at (events.Enter monitor turn) = ⊥
+IsExitOf at (events.Exit monitor turn) = monitor ≡ at
+
 -- the event is one of this shared instruction
 abbrev pub Suits : Stop → Event → Type 0
-Suits (stops.Read at) (events.Read cell value bound) = cell ≡ at
-Suits (stops.Write at word) (events.Write cell value number) = (cell ≡ at) × (value ≡ word)
-Suits (stops.Update at change) (events.Update cell old new number) = (cell ≡ at) × (new ≡ applied change old)
-Suits (stops.Enter at) (events.Enter monitor turn) = monitor ≡ at
-Suits (stops.Exit at) (events.Exit monitor turn) = monitor ≡ at
-Suits stop event = ⊥
+Suits (stops.Read at) event = IsReadOf at event
+Suits (stops.Write at word) event = IsWriteOf at word event
+Suits (stops.Update at change) event = IsUpdateOf at change event
+Suits (stops.Enter at) event = IsEnterOf at event
+Suits (stops.Exit at) event = IsExitOf at event
+Suits (stops.Ended end) event = ⊥
 
 -- an event that is met is one of the shared instruction
 abbrev pub Fits : Stop → Told → Type 0
 Fits stop (told.Makes event) = Suits stop event
-Fits stop met = Unit {0}
+Fits stop told.Over = Unit {0}
+Fits stop told.Off = Unit {0}
 
 -- the turn of the last entry into each monitor
 abbrev pub turns_in : Follower → ℕ → ℕ

@@ -1,5 +1,5 @@
 use Rattle.std.proofs.Common.{◌≡◌, ◌==◌, ◌++◌, not, filter, take, drop}
-use Rattle.interleavings.specs.declared.acts.HeldTurn.{HeldTurn}
+use Rattle.interleavings.specs.declared.activity.HeldTurn.{HeldTurn}
 use Rattle.interleavings.proofs.step_effects.let_go.Given as goal
 
 -- the entries that were looked at stand last, without those of the monitor

@@ -69,7 +69,7 @@ pub struct OddLooks {
 /// What a thread has done and is doing: its name, how far it is, its finished events in order, the turns that it holds, and
 /// its row of odd looks, if there is one.
 #[derive(Drop)]
-pub struct Acts {
+pub struct Activity {
     pub name: Option<u32>,
     pub phase: Phase,
     pub events: LinkedList<Event>,
