@@ -1,9 +1,4 @@
 pub mod Accepted
 pub mod AnAnswer
-pub mod Begins
-pub mod FirstLines
 pub mod Followed
-pub mod Going
 pub mod OneAnswer
-pub mod Playthrough
-pub mod Turning

@@ -1,14 +1,10 @@
 pub mod Answers
-pub mod FirstLine
 pub mod Gives
 pub mod Inputs
 pub mod Laws
-pub mod Players
 pub mod Refusals
 pub mod Reports
-pub mod Schedules
 pub mod Settings
 pub mod Statuses
-pub mod Tables
 pub mod Telling
 pub mod Words

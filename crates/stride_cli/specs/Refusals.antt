@@ -7,8 +7,8 @@ use Rattle.interleavings.specs.declared.driven.DriveError.{DriveError}
 use Rattle.interleavings.specs.declared.driven.DriveError.TheVariants as drives
 use Rattle.log_format.specs.declared.format_error.FormatError.{FormatError}
 use Rattle.log_format.specs.declared.format_error.FormatError.TheVariants as formats
-use Rattle.stride_cli.specs.declared.playing.schedule.PlayError.{PlayError}
-use Rattle.stride_cli.specs.declared.playing.schedule.PlayError.TheVariants as plays
+use Rattle.replayer.specs.declared.replay_error.ReplayError.{ReplayError}
+use Rattle.replayer.specs.declared.replay_error.ReplayError.TheVariants as replays
 use Rattle.stride_cli.specs.declared.refusal.Refusal.{Refusal}
 use Rattle.stride_cli.specs.declared.refusal.Refusal.TheVariants.{Program, Bundle, NotEnabled, NoMemory}
 use Rattle.stride_cli.specs.declared.status.ProgramFault.TheVariants.{Text, Code}
@@ -26,9 +26,9 @@ of_check (checks.Bad kind thread instruction) = Program (Code kind thread instru
 of_check checks.NoMemory = NoMemory
 
 -- a refused schedule
-abbrev pub of_play : PlayError → Refusal
-of_play (plays.NotEnabled place) = NotEnabled place
-of_play plays.NoMemory = NoMemory
+abbrev pub of_replay : ReplayError → Refusal
+of_replay (replays.NotEnabled place) = NotEnabled place
+of_replay replays.NoMemory = NoMemory
 
 -- a refused order of atomic steps
 abbrev pub of_drive : DriveError → Refusal

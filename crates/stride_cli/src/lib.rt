@@ -1,7 +1,7 @@
 //! The commands of `stride`, from words and bytes to bytes and a status.
 //!
-//! Owns: the words of the command line (`Words`), the reports (`Reports`), the answer to words and bytes (`Answers`), what
-//! a status tells of it (`Telling`), and, until there is a replayer, the table on which a schedule is played (`playing`).
+//! Owns: the words of the command line (`Words`), the reports (`Reports`), the answer to words and bytes (`Answers`),
+//! and what a status tells of it (`Telling`).
 //! The layer above is `main` alone. It may rely on the clauses of `offline`: the status and the report are those of the
 //! answer, of which there is one, a fault is answered only where the device's count rose, and a refusal leaves
 //! the sink as it was.
@@ -12,7 +12,6 @@ mod input;
 mod laws;
 mod messages;
 mod offline_call;
-mod playing;
 mod refusal;
 mod reports;
 mod settings;

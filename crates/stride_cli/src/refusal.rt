@@ -1,11 +1,11 @@
 //! Why a command that has read its input made no report.
 ghost use Rattle.std.specs.Prelude.{◌≡◌};
 
-use crate::playing::PlayError;
 use crate::status::{ProgramFault, Status};
 use assembler::AsmError;
 use interleavings::DriveError;
 use log_format::{FormatError, FormatKind};
+use replayer::ReplayError;
 use stride_base::NoMemory;
 use stride_isa::CheckError;
 
@@ -78,16 +78,16 @@ impl From<CheckError> for Refusal {
     }
 }
 
-impl From<PlayError> for Refusal {
+impl From<ReplayError> for Refusal {
     ghost use Rattle.std.specs.Prelude.{◌≡◌};
-    ghost use Rattle.stride_cli.specs.Refusals.{of_play};
+    ghost use Rattle.stride_cli.specs.Refusals.{of_replay};
 
-    ghost from_gives = { λ error refusal. refusal ≡ of_play error };
+    ghost from_gives = { λ error refusal. refusal ≡ of_replay error };
 
-    fn from(error: PlayError) -> Refusal {
+    fn from(error: ReplayError) -> Refusal {
         match error {
-            PlayError::NotEnabled { place } => Refusal::NotEnabled { place },
-            PlayError::NoMemory => Refusal::NoMemory,
+            ReplayError::NotEnabled { place } => Refusal::NotEnabled { place },
+            ReplayError::NoMemory => Refusal::NoMemory,
         }
     }
 }

@@ -5,10 +5,10 @@ ghost use Rattle.stride_cli.specs.Settings.{input_limit};
 ghost use Rattle.stride_cli.specs.declared.words.Command.TheVariants.{Follow};
 
 use crate::input::read_input;
-use crate::playing::{Table, ends_of, play};
 use crate::refusal::Refusal;
 use crate::reports::put_ends;
 use crate::settings::FUEL;
+use replayer::replay;
 use std::alloc::Global;
 use stride_base::List;
 
@@ -17,14 +17,11 @@ pub fn follow_schedule(alloc: Global, bytes: &[u8]) -> Result<List<u8>, Refusal>
     requires { length bytes.now ≤ input_limit }
     ensures { Gives result Follow bytes.now }
 {
-    sc_machine::replay_along_turns();
     let input = read_input(alloc, bytes)?;
-    let mut table = Table::start(alloc, &input.program, FUEL)?;
-    play(&mut table, input.order.as_slice())?;
-    let ends = ends_of(alloc, table.players)?;
+    let played = replay(alloc, &input.program, FUEL, input.order.as_slice())?;
     let mut report = List::new(alloc);
     report.push_all(b"transcript\n")?;
-    report.push_all(table.transcript.as_slice())?;
-    put_ends(&mut report, &ends)?;
+    report.push_all(played.transcript.as_slice())?;
+    put_ends(&mut report, played.ends.as_slice())?;
     Ok(report)
 }

@@ -1,0 +1,5 @@
+pub mod FirstLine
+pub mod Players
+pub mod Replays
+pub mod Schedules
+pub mod Tables

@@ -1,0 +1,27 @@
+-- The threads of a program that are played by a schedule. Only private clauses cite this module.
+use Rattle.std.specs.Prelude.{◌≡◌, ℕ, List, ◌++◌, map}
+use Rattle.std.specs.List.{range_with_len}
+use Rattle.stride_isa.specs.Listing.{Listing}
+use Rattle.sc_machine.specs.StandingThread.{Standing, started_at, standing_after}
+use Rattle.sc_machine.specs.ThreadStep.{Thread, answered}
+use Rattle.sc_machine.specs.Schedule.{settled_lines}
+use Rattle.sc_machine.specs.Transcript.{transcript_bytes}
+use Rattle.replayer.specs.declared.player.Player.{Player}
+
+-- the thread that a player plays
+abbrev pub thread_of : Player → Thread
+thread_of player = player.thread.state
+
+-- what each player's thread printed
+abbrev pub outputs_of : List Player → List (List ℕ)
+outputs_of players = map (λ (s : Thread). s.out) (map thread_of players)
+
+-- these are the players of the first threads, each after its local start
+abbrev pub ArePlayers : Listing → ℕ → ℕ → List Player → Type 0
+ArePlayers p fuel count players = map (λ player. player.thread) players ≡ map (started_at p fuel) (range_with_len 0 count)
+
+-- the thread was given a word at its shared instruction and went on to where it stands then, and what it printed on the
+-- way was added to the transcript
+pub record WentOn (old new : Standing) (word : ℕ) (lines lines' : List ℕ) : Type 0 where
+  pub goes : new ≡ standing_after word old
+  pub printed : lines' ≡ lines ++ transcript_bytes (settled_lines old.program old.fuel old.number (answered old.program old.fuel old.number word old.state))

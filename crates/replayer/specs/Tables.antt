@@ -1,0 +1,69 @@
+-- The table on which a schedule is played, beside the sequentially consistent machine that it shows. Only private clauses
+-- cite this module.
+use Rattle.std.specs.Prelude.{◌≡◌, ℕ, ◌<◌, ◌≤◌, Bool, true, false, List, length, map, slice_index, slice_set, Option, Some, None}
+use Rattle.std.specs.List.{slice_index_or}
+use Rattle.stride_isa.specs.Changes.{applied}
+use Rattle.stride_isa.specs.Listing.{cell_count}
+use Rattle.sc_machine.specs.declared.stop.Stop.{Stop}
+use Rattle.sc_machine.specs.declared.stop.Stop.TheVariants.{Read, Write, Update, Enter, Exit, Ended}
+use Rattle.sc_machine.specs.StandingThread.{IsThreadOf}
+use Rattle.sc_machine.specs.Machine.{Machine, is_free_for}
+use Rattle.sc_machine.specs.Transcript.{transcript_bytes}
+use Rattle.replayer.specs.declared.player.Player.{Player}
+use Rattle.replayer.specs.declared.table.Table.{Table}
+use Rattle.replayer.specs.Players.{thread_of}
+
+-- the word that a thread reads at a stop from the row of cells, 0 where it reads none
+abbrev pub word_in : Stop → List ℕ → ℕ
+word_in (Read cell) cells = slice_index cells cell
+word_in (Write cell value) cells = 0
+word_in (Update cell change) cells = slice_index cells cell
+word_in (Enter monitor) cells = 0
+word_in (Exit monitor) cells = 0
+word_in (Ended end) cells = 0
+
+-- the row of cells after the instruction at a stop
+abbrev pub cells_in : Stop → List ℕ → List ℕ
+cells_in (Read cell) cells = cells
+cells_in (Write cell value) cells = slice_set cells cell value
+cells_in (Update cell change) cells = slice_set cells cell (applied change (slice_index cells cell))
+cells_in (Enter monitor) cells = cells
+cells_in (Exit monitor) cells = cells
+cells_in (Ended end) cells = cells
+
+-- whether a thread may go on at a stop, by the row of holders
+abbrev pub may_in : ℕ → Stop → List (Option ℕ) → Bool
+may_in t (Read cell) holders = true
+may_in t (Write cell value) holders = true
+may_in t (Update cell change) holders = true
+may_in t (Enter monitor) holders = is_free_for t (slice_index_or holders monitor None)
+may_in t (Exit monitor) holders = true
+may_in t (Ended end) holders = false
+
+-- the row of holders after the instruction at a stop, made by this thread
+abbrev pub holders_in : ℕ → Stop → List (Option ℕ) → List (Option ℕ)
+holders_in t (Read cell) holders = holders
+holders_in t (Write cell value) holders = holders
+holders_in t (Update cell change) holders = holders
+holders_in t (Enter monitor) holders = slice_set holders monitor (Some t)
+holders_in t (Exit monitor) holders = slice_set holders monitor None
+holders_in t (Ended end) holders = holders
+
+-- the table has a player for each thread of its program
+pub record IsTable (table : Table) : Type 0 where
+  pub count : length table.players.items ≡ length table.program.now.threads
+  pub room : cell_count table.program.now.decls ≤ length table.cells
+  pub monitors : length table.holders ≡ 64
+  pub each : (t : ℕ) (d : Player) → t < length table.players.items → IsThreadOf table.program.now table.fuel t (slice_index_or table.players.items t d).thread
+
+-- the table shows this machine
+pub record Shows (table : Table) (m : Machine) : Type 0 where
+  pub threads : m.threads ≡ map thread_of table.players.items
+  pub cells : (cell : ℕ) → cell < cell_count table.program.now.decls → slice_index table.cells cell ≡ m.cells cell
+  pub holders : (monitor : ℕ) → monitor < 64 → slice_index_or table.holders monitor None ≡ m.holders monitor
+  pub transcript : table.transcript.items ≡ transcript_bytes m.transcript
+
+-- the table is one of the same program with the same fuel
+pub record SameGame (old new : Table) : Type 0 where
+  pub program : new.program ≡ old.program
+  pub fuel : new.fuel ≡ old.fuel
