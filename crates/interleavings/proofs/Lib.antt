@@ -5,6 +5,7 @@ pub mod Begins
 pub mod Ending
 pub mod Examples
 pub mod Exits
+pub mod ExitsEnd
 pub mod FewLogs
 pub mod Finishes
 pub mod FollowedWalks

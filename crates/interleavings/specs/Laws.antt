@@ -1,5 +1,5 @@
 -- What holds of every recording, whatever the program and the order are, and of following.
-use Rattle.std.specs.Prelude.{◌≡◌, ◌≤◌, ◌<◌, ℕ, true, false, List, Some, None, Ok, length, slice_get}
+use Rattle.std.specs.Prelude.{◌≡◌, ◌≤◌, ◌<◌, ℕ, true, false, List, Some, None, Ok, length, option_and_then, slice_get}
 use Rattle.std.specs.List.{AllByRecursion}
 use Rattle.stride_isa.specs.Listing.{Listing}
 use Rattle.sc_machine.specs.declared.end.End.TheVariants.{Stopped}
@@ -9,7 +9,7 @@ use Rattle.interleavings.specs.declared.event.Event.{Event}
 use Rattle.interleavings.specs.declared.event.LogEntry.{LogEntry}
 use Rattle.interleavings.specs.declared.rest.Rest.{Rest}
 use Rattle.interleavings.specs.EventStep.{after_event}
-use Rattle.interleavings.specs.Events.{log_of}
+use Rattle.interleavings.specs.Events.{log_of, entered_by, left_by}
 use Rattle.interleavings.specs.Following.{Followed, no_turns, follow}
 use Rattle.interleavings.specs.Walking.{is_exit, Walks}
 use Rattle.interleavings.specs.Recording.{Setting, activity_of, gives_up, GaveUpAt, IsHistoryOf, IsFollowed, IsRecording}
@@ -62,3 +62,13 @@ FollowedWalks = (p : Listing) (fuel t : ℕ) (log : List LogEntry) (followed : F
 -- a thread that goes by some events is run again through them by their log
 abbrev pub WalksAreFollowed : Type 0
 WalksAreFollowed = (p : Listing) (fuel t : ℕ) (es : List Event) (last : Thread) → IsWalk p fuel t es last → follow p fuel t (log_of es) ≡ Ok (record { events = es; thread = stopped last })
+
+-- the event at a place of these ends a turn that an earlier one of them begins
+pub record EndsEnter (es : List Event) (place monitor turn : ℕ) : Type 0 where
+  pub begun : ℕ
+  pub before : begun < place
+  pub entered : option_and_then entered_by (slice_get es begun) ≡ Some (record { monitor = monitor; turn = turn })
+
+-- each exit of a thread that goes from event to event ends a turn that an earlier enter of the thread began
+abbrev pub ExitsEndEnters : Type 0
+ExitsEndEnters = (p : Listing) (fuel t : ℕ) (es : List Event) (last : Thread) → IsWalk p fuel t es last → (place monitor turn : ℕ) → option_and_then left_by (slice_get es place) ≡ Some (record { monitor = monitor; turn = turn }) → EndsEnter es place monitor turn

@@ -10,6 +10,7 @@ pub mod History
 pub mod Laws
 pub mod Layout
 pub mod Recording
+pub mod RunEvents
 pub mod SimulationShows
 pub mod TraceLists
 pub mod Walking

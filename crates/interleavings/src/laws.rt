@@ -1,6 +1,6 @@
 //! Laws of recordings and of following, over the definitions alone. Each is the contract of a function that does nothing,
 //! but for naming the laws of the machine on which its proof stands.
-ghost use Rattle.interleavings.specs.Laws.{EventMakesMore, DrivenIsAHistory, DrivenIsFollowed, DrivenIsShort, DrivenGivesUp, DrivenIsARecording, NothingIsLeft, FollowedUsesItsLog, FollowedWalks, WalksAreFollowed};
+ghost use Rattle.interleavings.specs.Laws.{EventMakesMore, DrivenIsAHistory, DrivenIsFollowed, DrivenIsShort, DrivenGivesUp, DrivenIsARecording, NothingIsLeft, FollowedUsesItsLog, FollowedWalks, WalksAreFollowed, ExitsEndEnters};
 
 use sc_machine::{fuel_is_left, settled_makes_no_less};
 
@@ -81,3 +81,8 @@ pub fn walks_are_followed()
     fuel_is_left();
     settled_makes_no_less();
 }
+
+/// Each exit of a thread that goes from event to event ends a turn that an earlier enter of the thread began.
+pub fn exits_end_enters()
+    ensures { ExitsEndEnters }
+{}
