@@ -16,20 +16,20 @@ use Rattle.interleavings.specs.EventStep.{after_event}
 use Rattle.interleavings.specs.Following.{no_turns, turns_after}
 use Rattle.interleavings.specs.Laws.{EndsEnter, IsWalk}
 use Rattle.interleavings.specs.Walking.{IsMet, Walks}
-use Rattle.interleavings.proofs.HeldFlags.{HoldsAtExit, IsAnsweredAs, flags_after, none_held, settled-held, stands_answered}
+use Rattle.interleavings.proofs.HeldFlags.{FitsStop, HoldsAtExit, IsAnsweredAs, flags_after, none_held, settled-held, stands_answered}
 
 -- a thread that makes an event stands at a shared instruction, which sets its flags as the stop says
-flags_by_stop : (stop : Stop) (turns : ℕ → ℕ) (event : Event) (op : Op) (flags : List Bool) → IsMet stop turns event → IsAnsweredAs stop op flags → (done_held op flags ≡ flags_after stop flags) × HoldsAtExit stop flags
-flags_by_stop (stops.Read cell) turns event op flags met answered = answered
-flags_by_stop (stops.Write cell value) turns event op flags met answered = answered
-flags_by_stop (stops.Update cell change) turns event op flags met answered = answered
-flags_by_stop (stops.Enter monitor) turns event op flags met answered = answered
-flags_by_stop (stops.Exit monitor) turns event op flags met answered = answered
-flags_by_stop (stops.Ended end) turns (events.Read cell value bound) op flags met answered = absurd cc
-flags_by_stop (stops.Ended end) turns (events.Write cell value number) op flags met answered = absurd cc
-flags_by_stop (stops.Ended end) turns (events.Update cell old new number) op flags met answered = absurd cc
-flags_by_stop (stops.Ended end) turns (events.Enter monitor turn) op flags met answered = absurd cc
-flags_by_stop (stops.Ended end) turns (events.Exit monitor turn) op flags met answered = absurd cc
+flags_by_stop : (stop : Stop) (turns : ℕ → ℕ) (event : Event) (op : Op) (flags : List Bool) → IsMet stop turns event → IsAnsweredAs stop op flags → FitsStop stop op flags
+flags_by_stop (stops.Read cell) turns event op flags met fits = fits
+flags_by_stop (stops.Write cell value) turns event op flags met fits = fits
+flags_by_stop (stops.Update cell change) turns event op flags met fits = fits
+flags_by_stop (stops.Enter monitor) turns event op flags met fits = fits
+flags_by_stop (stops.Exit monitor) turns event op flags met fits = fits
+flags_by_stop (stops.Ended end) turns (events.Read cell value bound) op flags met fits = absurd cc
+flags_by_stop (stops.Ended end) turns (events.Write cell value number) op flags met fits = absurd cc
+flags_by_stop (stops.Ended end) turns (events.Update cell old new number) op flags met fits = absurd cc
+flags_by_stop (stops.Ended end) turns (events.Enter monitor turn) op flags met fits = absurd cc
+flags_by_stop (stops.Ended end) turns (events.Exit monitor turn) op flags met fits = absurd cc
 
 -- a lowered flag is down
 lowered : (flags : List Bool) (monitor : ℕ) → holds (slice_set flags monitor false) monitor ≡ false
@@ -99,19 +99,19 @@ ends_held stop turns flags event met held monitor turn is = absurd cc
 -- the flags of a thread after an event
 flags-after_event : (p : Listing) (fuel t : ℕ) (turns : ℕ → ℕ) (event : Event) (s : Thread) → IsMet (stop_of p t s) turns event → (after_event p fuel t event s).held ≡ flags_after (stop_of p t s) s.held
 flags-after_event p fuel t turns event s met =
-    settled-held p fuel t (answered p fuel t (word_given event) s) ∙ (flags_by_stop (stop_of p t s) turns event (op_at p t s.pc) s.held met (stands_answered p t s)).0
+    settled-held p fuel t (answered p fuel t (word_given event) s) ∙ (flags_by_stop (stop_of p t s) turns event (op_at p t s.pc) s.held met (stands_answered p t s)).flags_are
 
 -- each exit ends a turn that is held at the beginning, or one that an earlier event begins
 exit_source : (p : Listing) (fuel t : ℕ) (es : List Event) (turns : ℕ → ℕ) (s last : Thread) → Walks p fuel t es turns s last → (place monitor turn : ℕ) → option_and_then left_by (slice_get es place) ≡ Some (record { monitor = monitor; turn = turn }) → ((holds s.held monitor ≡ true) × (turn ≡ turns monitor)) ⊎ EndsEnter es place monitor turn
 exit_source p fuel t [] turns s last walks place monitor turn is = absurd cc
 exit_source p fuel t (event ∷ es) turns s last walks zero monitor turn is =
-    inl (ends_held (stop_of p t s) turns s.held event walks.0 (flags_by_stop (stop_of p t s) turns event (op_at p t s.pc) s.held walks.0 (stands_answered p t s)).1 monitor turn is)
+    inl (ends_held (stop_of p t s) turns s.held event walks.0 (flags_by_stop (stop_of p t s) turns event (op_at p t s.pc) s.held walks.0 (stands_answered p t s)).at_exit monitor turn is)
 exit_source p fuel t (event ∷ es) turns s last walks (suc place) monitor turn is =
     elim (exit_source p fuel t es (turns_after event turns) (after_event p fuel t event s) last walks.1 place monitor turn is) [
       | inl now ↦ elim (held_from (stop_of p t s) turns s.held event walks.0 monitor (subst (λ (flags : List Bool). holds flags monitor ≡ true) (flags-after_event p fuel t turns event s walks.0) now.0)) [
-          | inl entered ↦ inr (record { begun = 0; before = omega arith; entered = entered ∙ ap (λ n. Some (record { monitor = monitor; turn = n })) (sym now.1) })
-          | inr before ↦ inl (before.0, now.1 ∙ before.1)
-        ]
+        | inl entered ↦ inr (record { begun = 0; before = omega arith; entered = entered ∙ ap (λ n. Some (record { monitor = monitor; turn = n })) (sym now.1) })
+        | inr before ↦ inl (before.0, now.1 ∙ before.1)
+      ]
       | inr ends ↦ inr (record { begun = suc ends.begun; before = let h : ends.begun < place = ends.before in omega arith; entered = ends.entered })
     ]
 
