@@ -1,3 +1,4 @@
+pub mod CodeLineLemmas
 pub mod Examples
 pub mod FormLemmas
 pub mod Glued

@@ -2,7 +2,7 @@
 use Rattle.std.proofs.Common.{◌≡◌, ℕ, zero, suc, ◌+◌, ◌<◌, ◌∙◌, List, [], ◌∷◌, ◌++◌, length, map, refl, sym, ap, arith, get_or, Option, None, append_assoc}
 use Rattle.std.specs.List.{flat_map, range_with_len, slice_index_or}
 use Rattle.std.proofs.lemmas.Grind.{flat_map-append}
-use Rattle.std.proofs.lemmas.List.{append-nil, get_or-map, length-map, map-append}
+use Rattle.std.proofs.lemmas.List.{append-nil, get_or-map, length-map, map-append, map-id}
 use Rattle.std.proofs.lemmas.List.FromFn.{get_or-map-range_with_len, length-map-range_with_len, map-range_with_len_more}
 use Rattle.std.proofs.lemmas.Simd.{map-map}
 use Rattle.std.proofs.Math.ListN.{replicate}
@@ -11,7 +11,6 @@ use Rattle.sc_machine.specs.ThreadStep.{start_thread, settled}
 use Rattle.sc_machine.specs.StandingThread.{Standing, IsThreadOf, started_at}
 use Rattle.sc_machine.specs.Schedule.{settled_lines}
 use Rattle.sc_machine.specs.Transcript.{spelled, transcript_bytes}
-use Rattle.interleavings.proofs.Going.{range_more}
 use Rattle.stride_cli.specs.declared.playing.player.Player.{Player}
 use Rattle.stride_cli.specs.Players.{ArePlayers, thread_of}
 
@@ -22,6 +21,12 @@ players_more p fuel n players player are is =
     ∙ ap (λ ts. ts ++ player.thread ∷ []) are
     ∙ ap (λ t. map (started_at p fuel) (range_with_len 0 n) ++ t ∷ []) is
     ∙ sym (map-range_with_len_more (started_at p fuel) 0 n n same)
+
+-- the first numbers and one more
+range_more : (n : ℕ) → range_with_len 0 (n + 1) ≡ range_with_len 0 n ++ n ∷ []
+range_more n =
+    let same : 0 + n ≡ n = omega arith in
+    sym (map-id (range_with_len 0 (n + 1))) ∙ map-range_with_len_more (λ k. k) 0 n n same ∙ ap (λ ks. ks ++ n ∷ []) (map-id (range_with_len 0 n))
 
 pub lines_more : (p : Listing) (fuel n : ℕ) (before lines lines' : List ℕ) → lines ≡ before ++ transcript_bytes (flat_map (λ t. settled_lines p fuel t start_thread) (range_with_len 0 n)) → lines' ≡ lines ++ transcript_bytes (settled_lines p fuel n start_thread) → lines' ≡ before ++ transcript_bytes (flat_map (λ t. settled_lines p fuel t start_thread) (range_with_len 0 (n + 1)))
 lines_more p fuel n before lines lines' so_far more =

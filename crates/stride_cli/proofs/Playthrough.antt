@@ -7,6 +7,8 @@ use Rattle.stride_isa.specs.Listing.{Listing}
 use Rattle.sc_machine.specs.Machine.{Machine, can}
 use Rattle.sc_machine.specs.Schedule.{turn, turns, ready}
 use Rattle.stride_cli.specs.declared.playing.table.Table.{Table}
+use Rattle.stride_cli.specs.declared.status.MemberFault.{MemberFault}
+use Rattle.stride_cli.specs.Answers.{member_fault}
 use Rattle.stride_cli.specs.Schedules.{PlayedTo, RefusedAt}
 use Rattle.stride_cli.specs.Tables.{IsTable, Shows, SameGame}
 
@@ -18,11 +20,15 @@ nothing_played table is shows = record { table = is; game = record { program = r
 can_there : (first here : Table) (t : ℕ) (m : Machine) (b : Bool) → SameGame first here → can here.program.now t m ≡ b → can first.program.now t m ≡ b
 can_there first here t m b game h = sym (ap (λ program. can program.now t m) game.program) ∙ h
 
-pub refused : RefusedAlongTurns → (first here : Table) (schedule : List ℕ) (place : ℕ) → place < length schedule → (inv : PlayedTo first here (take place schedule)) → can here.program.now (slice_index schedule place) inv.machine ≡ false → RefusedAt first.program.now first.fuel schedule place
-refused refuses first here schedule place lt inv off =
+pub refused : RefusedAlongTurns → (first here next : Table) (schedule : List ℕ) (place : ℕ) (fault : MemberFault) → place < length schedule → (inv : PlayedTo first here (take place schedule)) → can here.program.now (slice_index schedule place) inv.machine ≡ false → SameGame here next → fault ≡ member_fault (length next.program.now.threads) (slice_index schedule place) → RefusedAt first.program.now first.fuel schedule place fault
+refused refuses first here next schedule place fault lt inv off game cause =
     let stuck = can_there first here (slice_index schedule place) inv.machine false inv.game off in
     let told = refuses first.program.now first.fuel schedule place inv.machine lt inv.reached stuck in
-    record { first = told.0; no_run = told.1 }
+    record {
+      first = told.0;
+      no_run = told.1;
+      cause = cause ∙ ap (λ program. member_fault (length program.now.threads) (slice_index schedule place)) (game.program ∙ inv.game.program);
+    }
 
 -- one more turn, of a thread that is enabled
 one_more_turn : TurnsJoin → (p : Listing) (fuel : ℕ) (ts : List ℕ) (t : ℕ) (m after : Machine) → turns p fuel ts m ≡ Some after → can p t after ≡ true → turns p fuel (ts ++ t ∷ []) m ≡ Some (turn p fuel t after)

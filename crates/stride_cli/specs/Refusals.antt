@@ -1,6 +1,8 @@
 -- How the refusals of the layers below are told. Only private clauses cite this module.
+use Rattle.std.specs.Prelude.{ℕ, List}
 use Rattle.stride_isa.specs.declared.check_error.CheckError.{CheckError}
 use Rattle.stride_isa.specs.declared.check_error.CheckError.TheVariants as checks
+use Rattle.assembler.specs.CodeLines.{code_line}
 use Rattle.assembler.specs.declared.asm_error.AsmError.{AsmError}
 use Rattle.assembler.specs.declared.asm_error.AsmError.TheVariants as texts
 use Rattle.interleavings.specs.declared.driven.DriveError.{DriveError}
@@ -11,6 +13,7 @@ use Rattle.stride_cli.specs.declared.playing.schedule.PlayError.{PlayError}
 use Rattle.stride_cli.specs.declared.playing.schedule.PlayError.TheVariants as plays
 use Rattle.stride_cli.specs.declared.refusal.Refusal.{Refusal}
 use Rattle.stride_cli.specs.declared.refusal.Refusal.TheVariants.{Program, Bundle, NotEnabled, NoMemory}
+use Rattle.stride_cli.specs.declared.status.MemberFault.TheVariants.{NoThread}
 use Rattle.stride_cli.specs.declared.status.ProgramFault.TheVariants.{Text, Code}
 use Rattle.stride_cli.specs.declared.status.Status.{Status}
 use Rattle.stride_cli.specs.declared.status.Status.TheVariants as statuses
@@ -20,19 +23,19 @@ abbrev pub of_text : AsmError → Refusal
 of_text (texts.Bad kind line) = Program (Text kind line)
 of_text texts.NoMemory = NoMemory
 
--- a refused program
-abbrev pub of_check : CheckError → Refusal
-of_check (checks.Bad kind thread instruction) = Program (Code kind thread instruction)
-of_check checks.NoMemory = NoMemory
+-- a refused program, which this text spells
+abbrev pub of_check : List ℕ → CheckError → Refusal
+of_check text (checks.Bad kind thread instruction) = Program (Code kind (code_line text thread instruction) thread instruction)
+of_check text checks.NoMemory = NoMemory
 
 -- a refused schedule
 abbrev pub of_play : PlayError → Refusal
-of_play (plays.NotEnabled place) = NotEnabled place
+of_play (plays.NotEnabled place fault) = NotEnabled place fault
 of_play plays.NoMemory = NoMemory
 
 -- a refused order of atomic steps
 abbrev pub of_drive : DriveError → Refusal
-of_drive (drives.NoSuchThread place) = NotEnabled place
+of_drive (drives.NoSuchThread place) = NotEnabled place NoThread
 of_drive drives.NoMemory = NoMemory
 
 -- a refused bundle
@@ -44,5 +47,5 @@ of_format formats.NoMemory = NoMemory
 abbrev pub status_of : Refusal → Status
 status_of (Program fault) = statuses.Program fault
 status_of (Bundle kind offset) = statuses.Bundle kind offset
-status_of (NotEnabled place) = statuses.NotEnabled place
+status_of (NotEnabled place fault) = statuses.NotEnabled place fault
 status_of NoMemory = statuses.NoMemory

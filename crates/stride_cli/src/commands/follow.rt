@@ -1,7 +1,6 @@
 //! `follow`: a program played by a schedule.
 ghost use Rattle.std.specs.Prelude.{◌≤◌, length};
 ghost use Rattle.stride_cli.specs.Gives.{Gives};
-ghost use Rattle.stride_cli.specs.Settings.{input_limit};
 ghost use Rattle.stride_cli.specs.declared.words.Command.TheVariants.{Follow};
 
 use crate::input::read_input;
@@ -11,10 +10,11 @@ use crate::reports::put_ends;
 use crate::settings::FUEL;
 use std::alloc::Global;
 use stride_base::List;
+use stride_base::limits::INPUT_LIMIT;
 
 /// The transcript and the ends of the threads, where the bytes are a program with a schedule of it.
 pub fn follow_schedule(alloc: Global, bytes: &[u8]) -> Result<List<u8>, Refusal>
-    requires { length bytes.now ≤ input_limit }
+    requires { length bytes.now ≤ INPUT_LIMIT }
     ensures { Gives result Follow bytes.now }
 {
     sc_machine::replay_along_turns();

@@ -7,7 +7,8 @@ loop-place-init c = nothing_played c.args.table.now c.requires.table c.requires.
 pub returns-in-Ok-false : goal.returns-in-Ok-false
 returns-in-Ok-false c =
     let stuck = rw c.in-Ok-false.field-0-test at (c.in-Ok-false.ensures.taken c.loop-place.invariant.machine c.loop-place.invariant.shows) in
-    refused c.replay_along_turns.ensures.refused c.args.table.now c.loop-place.table c.args.schedule.now c.loop-place.place c.loop-place-test.true c.loop-place.invariant stuck.0
+    refused c.replay_along_turns.ensures.refused c.args.table.now c.loop-place.table c.turn.new.self c.args.schedule.now c.loop-place.place c.fault_of.result c.loop-place-test.true c.loop-place.invariant
+    stuck.0 c.in-Ok-false.ensures.table.1 c.fault_of.ensures
 
 pub loop-place-preserved : goal.loop-place-preserved
 loop-place-preserved c =
