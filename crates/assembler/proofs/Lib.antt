@@ -1,3 +1,4 @@
+pub mod CodeLaws
 pub mod CodeLineLemmas
 pub mod Examples
 pub mod FormLemmas

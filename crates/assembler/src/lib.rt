@@ -31,7 +31,7 @@ mod words;
 pub use asm_error::{AsmError, AsmKind};
 pub use assembling::assemble;
 pub use code_lines::line_of_code;
-pub use laws::{canonical_is_read_back, split_is_parts};
+pub use laws::{canonical_is_read_back, code_has_lines, split_is_parts};
 pub use order_split::OrderSplit;
 pub use orders::read_order;
 pub use printing::print_program;
