@@ -4,6 +4,7 @@ use Rattle.std.specs.List.{flat_map}
 use Rattle.stride_isa.specs.Listing.{Listing}
 use Rattle.stride_isa.specs.declared.decl.Shape.TheVariants.{Single, Array}
 use Rattle.stride_isa.specs.declared.op.Op.TheVariants as ops
+use Rattle.stride_isa.specs.declared.operand.OperandClass.TheVariants as classes
 use Rattle.assembler.specs.Programs.{spelled}
 use Rattle.assembler.specs.Orders.{order_spelled}
 use Rattle.assembler.specs.declared.asm_error.AsmKind.TheVariants.{BadLine, BadNumber, UnknownName, Twice}
@@ -25,7 +26,7 @@ sum_program = record {
 sum_is_spelled : spelled sum_text ≡ Ok sum_program
 sum_is_spelled = refl
 
-unknown_before_twice : spelled (text (codes "var x" ∷ codes "thread" ∷ codes "jump nowhere" ∷ codes "a:" ∷ codes "a:" ∷ [])) ≡ Err (record { kind = UnknownName; line = 3 })
+unknown_before_twice : spelled (text (codes "var x" ∷ codes "thread" ∷ codes "jump nowhere" ∷ codes "a:" ∷ codes "a:" ∷ [])) ≡ Err (record { kind = UnknownName classes.Label; line = 3 })
 unknown_before_twice = refl
 
 label_behind_a_bad_line : spelled (text (codes "thread" ∷ codes "jump end" ∷ codes "bad line" ∷ codes "end:" ∷ [])) ≡ Err (record { kind = BadLine; line = 3 })

@@ -1,8 +1,9 @@
 -- What the forms of lines declare.
-use Rattle.std.proofs.Common.{◌≡◌, ℕ, ◌-◌, ◌≤◌, Bool, true, false, cond, eqb, leb, List, [], ◌∷◌, length, take, slice_index, Option, Some, None, IfSome, refl, arith}
+use Rattle.std.proofs.Common.{◌≡◌, ℕ, ◌+◌, ◌-◌, ◌≤◌, Bool, true, false, cond, eqb, leb, List, [], ◌∷◌, length, take, slice_index, Option, Some, None, IfSome, refl, arith}
 use Rattle.std.specs.Option.{option_and_then}
 use Rattle.std.proofs.lemmas.Bool.{leb-true}
 use Rattle.stride_isa.specs.Instructions.{class, op_with}
+use Rattle.stride_isa.specs.Limits.{array_limit}
 use Rattle.stride_isa.specs.Names.{is_name}
 use Rattle.stride_isa.specs.declared.op.OpKind.{OpKind}
 use Rattle.stride_isa.specs.declared.operand.OperandClass.{OperandClass}
@@ -29,12 +30,12 @@ above_zero-same n size e = kept (leb 1 n) e where
   kept false e = cc
 
 -- an array's size
-size_number-fits : (word : List ℕ) (size : ℕ) → size_number word ≡ Some size → (1 ≤ size) × (size ≤ 256)
-size_number-fits word size e = fits (number 257 word) refl e where
-  fits : (value : Option ℕ) → number 257 word ≡ value → option_and_then above_zero value ≡ Some size → (1 ≤ size) × (size ≤ 256)
+size_number-fits : (word : List ℕ) (size : ℕ) → size_number word ≡ Some size → (1 ≤ size) × (size ≤ array_limit)
+size_number-fits word size e = fits (number (array_limit + 1) word) refl e where
+  fits : (value : Option ℕ) → number (array_limit + 1) word ≡ value → option_and_then above_zero value ≡ Some size → (1 ≤ size) × (size ≤ array_limit)
   fits None spelled e = cc
   fits (Some n) spelled e =
-      let small = number_within 257 word n spelled in
+      let small = number_within (array_limit + 1) word n spelled in
       let same = above_zero-same n size e in
       (above_zero-least n size e, omega arith)
 

@@ -1,3 +1,5 @@
+pub mod CodeLaws
+pub mod CodeLineLemmas
 pub mod Examples
 pub mod FormLemmas
 pub mod Glued

@@ -9,7 +9,8 @@ use Rattle.std.proofs.lemmas.Grind.{flat_map-append}
 use Rattle.std.proofs.lemmas.List.{append-nil, take_more, drop_more, take_all, drop_all, length-append, length-replicate}
 use Rattle.assembler.specs.Answers.{IsAnswer}
 use Rattle.assembler.specs.Lines.{lines}
-use Rattle.assembler.specs.Orders.{Halves, OrderWord, Repeated, first_word_fault, halves, members_in, members_of, order_limit, order_of, repeated_of, words_from_line}
+use Rattle.stride_base.specs.declared.limits.TheConstants.{ORDER_LIMIT}
+use Rattle.assembler.specs.Orders.{Halves, OrderWord, Repeated, first_word_fault, halves, members_in, members_of, order_of, repeated_of, words_from_line}
 use Rattle.assembler.specs.Programs.{LineFault, or_else, unless_fault}
 use Rattle.assembler.specs.Words.{words_of}
 use Rattle.assembler.specs.declared.asm_error.AsmError.{AsmError}
@@ -86,7 +87,7 @@ read_said before rest w None e further = rw e refl
 read_said before rest w (Some said) e further =
     let one = members_in-one before w said e in
     let long : length (members_in (before ++ w ∷ [])) ≡ length (members_in before) + said.times = rw one (simp (length-append, length-replicate)) in
-    rw (e, long) (read_if (ltb order_limit (length (members_in before) + said.times)) w.line _ _ (members_in before ++ members_of said) rest (rw (append_assoc before, one) at further))
+    rw (e, long) (read_if (ltb ORDER_LIMIT (length (members_in before) + said.times)) w.line _ _ (members_in before ++ members_of said) rest (rw (append_assoc before, one) at further))
 
 -- the words from a place on are read after the members of the words before as they are read one after another
 rest_of-read : (before rest : List OrderWord) → rest_of before rest ≡ with_words (members_in before) rest

@@ -3,6 +3,7 @@ use Rattle.std.proofs.Common.{◌≡◌, ℕ, ◌+◌, ◌-◌, ◌^◌, ◌<◌
 use Rattle.std.proofs.lemmas.List.{get_or_at}
 use Rattle.std.specs.List.{list_all, AllByRecursion, slice_index_or}
 use Rattle.stride_isa.specs.Instructions.{kind, operand}
+use Rattle.stride_isa.specs.Limits.{local_count}
 use Rattle.stride_isa.specs.Listing.{Listing, decl_at}
 use Rattle.stride_isa.specs.Names.{is_name, continues_name}
 use Rattle.stride_isa.specs.WellFormed.{HasSize, IsDeclaration}
@@ -73,7 +74,7 @@ canonical_forms p = decls_forms p.decls (monitors_forms p.monitors (threads_form
 abbrev pub IsReadable : Listing → Operand → Type 0
 IsReadable p Nothing = Unit {0}
 IsReadable p (Number word) = word < 2 ^ 64
-IsReadable p (Local local) = local < 16
+IsReadable p (Local local) = local < local_count
 IsReadable p (Label target) = target < 2 ^ 64
 IsReadable p (Variable decl) = is_name (decl_at p decl).name ≡ true
 IsReadable p (Array decl) = is_name (decl_at p decl).name ≡ true
@@ -122,8 +123,8 @@ form_of-label at small = label_form-colon (label_name at) (is_name-label at smal
 -- the printed line of an instruction says the instruction
 form_of-op : (p : Listing) (op : Op) → IsPrintable p op → form_of (op_words p op) ≡ op_line p op
 form_of-op p (ops.Push word) fits = rw (number-decimal (2 ^ 64) word fits fits) refl
-form_of-op p (ops.Get local) fits = rw (number-decimal 16 local fits (omega arith)) refl
-form_of-op p (ops.Set local) fits = rw (number-decimal 16 local fits (omega arith)) refl
+form_of-op p (ops.Get local) fits = rw (number-decimal local_count local fits (omega arith)) refl
+form_of-op p (ops.Set local) fits = rw (number-decimal local_count local fits (omega arith)) refl
 form_of-op p (ops.Jump target) fits = rw (is_name-label target fits) refl
 form_of-op p (ops.Jz target) fits = rw (is_name-label target fits) refl
 form_of-op p (ops.Jnz target) fits = rw (is_name-label target fits) refl

@@ -5,7 +5,7 @@ use Rattle.std.proofs.lemmas.Bool.{ltb-false, or_parts}
 use Rattle.std.proofs.lemmas.Fmt.{length-decimal-le}
 use Rattle.std.proofs.lemmas.Grind.{flat_map-append}
 use Rattle.stride_isa.specs.Instructions.{kind, operand, spelling}
-use Rattle.stride_isa.specs.Limits.{name_limit}
+use Rattle.stride_isa.specs.Limits.{instruction_limit, name_limit}
 use Rattle.std.proofs.lemmas.List.Sums.{sum_by-cons}
 use Rattle.stride_isa.specs.Listing.{Listing, cell_count, cells_of, decl_at, instruction_count}
 use Rattle.stride_isa.specs.Names.{is_name}
@@ -19,7 +19,7 @@ use Rattle.stride_isa.specs.declared.op.OpKind.{OpKind}
 use Rattle.stride_isa.specs.declared.op.OpKind.TheVariants as kinds
 use Rattle.stride_isa.specs.declared.operand.Operand.{Operand}
 use Rattle.stride_isa.specs.declared.operand.Operand.TheVariants.{Nothing, Number, Local, Label, Variable, Array, Monitor}
-use Rattle.assembler.specs.Canonical.{canonical, code_lines, decl_words, is_target, label_lines, label_name, line_of, monitor_words, op_words, operand_words, thread_lines}
+use Rattle.assembler.specs.Canonical.{canonical, canonical_limit, code_lines, decl_words, is_target, label_lines, label_name, line_of, monitor_words, op_words, operand_words, thread_lines}
 use Rattle.assembler.proofs.PrintedForms.{IsReadable, IsPrintable, IsPrintableCode}
 use Rattle.assembler.proofs.ReadBack.{printable}
 
@@ -83,7 +83,7 @@ code_short p code at (op ∷ ops) fits room =
     rw (flat_map-append line_of label (op_words p op ∷ rest), length-append (flat_map line_of label) (flat_map line_of (op_words p op ∷ rest)), length-append (line_of (op_words p op)) (flat_map line_of rest)) refl in
     omega (arith, parts, label_short (is_target code at) at (omega arith), op_short p op fits.0, code_short p code (at + 1) ops fits.1 (omega arith))
 
-threads_short : (p : Listing) (threads : List (List Op)) → AllByRecursion (IsPrintableCode p) threads → instruction_count threads ≤ 65536 → length (flat_map line_of (flat_map (thread_lines p) threads)) ≤ 7 * length threads + 49 * instruction_count threads
+threads_short : (p : Listing) (threads : List (List Op)) → AllByRecursion (IsPrintableCode p) threads → instruction_count threads ≤ instruction_limit → length (flat_map line_of (flat_map (thread_lines p) threads)) ≤ 7 * length threads + 49 * instruction_count threads
 threads_short p [] fits few = omega arith
 threads_short p (code ∷ others) fits few =
     let here = code_lines p code 0 code in
@@ -112,7 +112,7 @@ decls_short (d ∷ decls) fits =
     omega (arith, length-append (line_of (decl_words d.name d.shape d.start)) (flat_map line_of (map (λ (e : Decl). decl_words e.name e.shape e.start) decls)), decl_short d fits.0, sum_by-cons (λ (e : Decl). cells_of e.shape) d decls, decls_short decls fits.1)
 
 -- the canonical text of a valid program has fewer than four million bytes
-pub canonical_short : (p : Listing) → IsWellFormed p → IsValid p → length (canonical p) < 4000000
+pub canonical_short : (p : Listing) → IsWellFormed p → IsValid p → length (canonical p) < canonical_limit
 canonical_short p formed valid =
     let decls = map (λ d. decl_words d.name d.shape d.start) p.decls in
     let monitors = map monitor_words p.monitors in

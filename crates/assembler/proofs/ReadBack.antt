@@ -5,6 +5,7 @@ use Rattle.std.proofs.lemmas.List.{get_or-map, length-map}
 use Rattle.std.proofs.lemmas.List.Elements.{All-from_recursion, recursion_from_All, All-from_get_or}
 use Rattle.std.specs.List.{AllByRecursion, list_any, slice_index_or}
 use Rattle.stride_isa.specs.Instructions.{operand}
+use Rattle.stride_isa.specs.Limits.{instruction_limit}
 use Rattle.stride_isa.specs.Listing.{Listing, empty, code_of, op_at, decl_at, instruction_count}
 use Rattle.stride_isa.specs.Names.{is_name}
 use Rattle.stride_isa.specs.Validity.{IsValid, IsThere, IsInside, Names, TargetsInside, label_of, target_of}
@@ -100,7 +101,7 @@ placed-op p thread op place formed stands finds names inside =
     found-operand p thread (operand op) place formed (λ t e. stands (jumps_to t) (is_place-same (target_of op) t e)) finds names inside
 
 -- the code of a thread has at most as many instructions as a program may have
-short-code : (p : Listing) (thread : ℕ) → IsWellFormed p → length (code_of p thread) ≤ 65536
+short-code : (p : Listing) (thread : ℕ) → IsWellFormed p → length (code_of p thread) ≤ instruction_limit
 short-code p thread formed =
     let less = length-le-count p.threads thread in
     let limit = formed.limits.instructions in

@@ -4,6 +4,7 @@ use Rattle.std.proofs.lemmas.Bool.{lt-leb}
 use Rattle.std.proofs.lemmas.List.{length_push}
 use Rattle.std.specs.List.{AllByRecursion, slice_index_or}
 use Rattle.stride_isa.specs.Instructions.{operand}
+use Rattle.stride_isa.specs.Limits.{instruction_limit, thread_limit}
 use Rattle.stride_isa.specs.Listing.{Listing, decl_at, instruction_count, push_last}
 use Rattle.stride_isa.specs.declared.op.Op.{Op}
 use Rattle.stride_isa.specs.declared.op.Op.TheVariants as ops
@@ -37,7 +38,7 @@ abbrev pub IsPlaced : (List ℕ → Option ℕ) → Listing → Op → Type 0
 IsPlaced place p op = IsFound place p (operand op)
 
 -- the line of an instruction in a thread with room is not refused
-refusal-op : (labels : Labels) (p : Listing) (threads : List (List Op)) (op : Op) → IsPlaced labels.place p op → has_thread (with_threads p threads) ≡ true → nat_le 65536 (instruction_count threads) ≡ false → refusal labels (with_threads p threads) (op_line p op) ≡ None
+refusal-op : (labels : Labels) (p : Listing) (threads : List (List Op)) (op : Op) → IsPlaced labels.place p op → has_thread (with_threads p threads) ≡ true → nat_le instruction_limit (instruction_count threads) ≡ false → refusal labels (with_threads p threads) (op_line p op) ≡ None
 refusal-op labels p threads (ops.Jump target) placed begun room = rw (begun, placed, room) refl
 refusal-op labels p threads (ops.Jz target) placed begun room = rw (begun, placed, room) refl
 refusal-op labels p threads (ops.Jnz target) placed begun room = rw (begun, placed, room) refl
@@ -98,18 +99,18 @@ abbrev pub places_in : Listing → List Op → List Form → List ℕ → Option
 places_in p code after name = place_of name 0 (code_forms p code 0 code after)
 
 -- the line of an instruction adds the instruction to the last thread
-reading-op : (p : Listing) (threads : List (List Op)) (code : List Op) (op : Op) (lines before rest : List Form) → thread_lines before (op_line p op ∷ rest) ≡ lines → IsPlaced (λ name. place_of name 0 lines) p op → instruction_count threads + length code < 65536 → reading before (with_threads p (threads ++ code ∷ [])) (op_line p op ∷ rest) ≡ reading (op_line p op ∷ before) (with_threads p (threads ++ (code ++ op ∷ []) ∷ [])) rest
+reading-op : (p : Listing) (threads : List (List Op)) (code : List Op) (op : Op) (lines before rest : List Form) → thread_lines before (op_line p op ∷ rest) ≡ lines → IsPlaced (λ name. place_of name 0 lines) p op → instruction_count threads + length code < instruction_limit → reading before (with_threads p (threads ++ code ∷ [])) (op_line p op ∷ rest) ≡ reading (op_line p op ∷ before) (with_threads p (threads ++ (code ++ op ∷ []) ∷ [])) rest
 reading-op p threads code op lines before rest seen placed room =
     let labels = labels_at before (op_line p op ∷ rest) in
     let here : IsPlaced labels.place p op = subst (λ (ls : List Form). IsPlaced (λ name. place_of name 0 ls) p op) (sym seen) placed in
-    let full : nat_le 65536 (instruction_count (threads ++ code ∷ [])) ≡ false = lt-leb 65536 (instruction_count (threads ++ code ∷ [])) (omega (arith, instruction_count-push threads code)) in
+    let full : nat_le instruction_limit (instruction_count (threads ++ code ∷ [])) ≡ false = lt-leb instruction_limit (instruction_count (threads ++ code ∷ [])) (omega (arith, instruction_count-push threads code)) in
     reading-line before (with_threads p (threads ++ code ∷ [])) (op_line p op) rest (with_threads p (threads ++ (code ++ op ∷ []) ∷ []))
     (refusal-op labels p (threads ++ code ∷ []) op here (has_thread-push p threads code) full)
     (added-op labels p (threads ++ code ∷ []) op here ∙ ap (with_threads p) (push_last-push threads code op))
 
 -- the lines of the instructions of a thread from a position on add these instructions. Of the lines before and after only
 -- this is known: the thread's lines are its printed lines, and no label from this position on stood before
-reading-code : (p : Listing) (code : List Op) (after : List Form) (goal : Result Listing LineFault) (threads : List (List Op)) → ((before : List Form) → reading before (with_threads p (threads ++ code ∷ [])) after ≡ goal) → (n : ℕ) (front ops : List Op) (before : List Form) → front ++ ops ≡ code → thread_lines before (code_forms p code n ops after) ≡ code_forms p code 0 code after → ((m : ℕ) → n ≤ m → m < 2 ^ 64 → stands_before (label_name m) before ≡ false) → AllByRecursion (IsPlaced (places_in p code after) p) ops → instruction_count threads + length front + length ops ≤ 65536 → n + length ops < 2 ^ 64 → reading before (with_threads p (threads ++ front ∷ [])) (code_forms p code n ops after) ≡ goal
+reading-code : (p : Listing) (code : List Op) (after : List Form) (goal : Result Listing LineFault) (threads : List (List Op)) → ((before : List Form) → reading before (with_threads p (threads ++ code ∷ [])) after ≡ goal) → (n : ℕ) (front ops : List Op) (before : List Form) → front ++ ops ≡ code → thread_lines before (code_forms p code n ops after) ≡ code_forms p code 0 code after → ((m : ℕ) → n ≤ m → m < 2 ^ 64 → stands_before (label_name m) before ≡ false) → AllByRecursion (IsPlaced (places_in p code after) p) ops → instruction_count threads + length front + length ops ≤ instruction_limit → n + length ops < 2 ^ 64 → reading before (with_threads p (threads ++ front ∷ [])) (code_forms p code n ops after) ≡ goal
 reading-code p code after goal threads finish n front [] before whole seen fresh placed room small =
     let all : front ≡ code = sym (append-nil front) ∙ whole in
     rw all (finish before)
@@ -135,13 +136,13 @@ pub record IsPlacedCode (p : Listing) (code : List Op) : Type 0 where
   pub each : (after : List Form) → AllByRecursion (IsPlaced (places_in p code after) p) code
 
 -- the lines of threads add the threads
-pub reading-threads : (p : Listing) (front threads : List (List Op)) (before : List Form) → front ++ threads ≡ p.threads → AllByRecursion (IsPlacedCode p) threads → length front + length threads ≤ 16 → instruction_count front + instruction_count threads ≤ 65536 → reading before (with_threads p front) (threads_forms p threads) ≡ Ok p
+pub reading-threads : (p : Listing) (front threads : List (List Op)) (before : List Form) → front ++ threads ≡ p.threads → AllByRecursion (IsPlacedCode p) threads → length front + length threads ≤ thread_limit → instruction_count front + instruction_count threads ≤ instruction_limit → reading before (with_threads p front) (threads_forms p threads) ≡ Ok p
 reading-threads p front [] before whole placed few room =
     let all : front ≡ p.threads = sym (append-nil front) ∙ whole in
     ap (λ (threads : List (List Op)). Ok (with_threads p threads)) all
 reading-threads p front (code ∷ threads) before whole placed few room =
     let after = threads_forms p threads in
-    let free : nat_le 16 (length front) ≡ false = lt-leb 16 (length front) (omega arith) in
+    let free : nat_le thread_limit (length front) ≡ false = lt-leb thread_limit (length front) (omega arith) in
     let finish : (b : List Form) → reading b (with_threads p (front ++ code ∷ [])) after ≡ Ok p = λ b. reading-threads p (front ++ code ∷ []) threads b (append_assoc front (code ∷ []) threads ∙ whole) placed.1 (omega (arith, length_push front code)) (omega (arith, instruction_count-push front code)) in
     reading-line before (with_threads p front) ThreadLine (code_forms p code 0 code after) (with_threads p (front ++ [] ∷ [])) (rw free refl) refl
     ∙ reading-code p code after (Ok p) front finish 0 [] code (ThreadLine ∷ before) refl refl (λ m from to. refl) (placed.0.each after) (omega arith) (omega arith)

@@ -74,3 +74,7 @@ line_of words = join_with_byte 32 words ++ 10 ∷ []
 -- the canonical text
 abbrev pub canonical : Listing → List ℕ
 canonical p = flat_map line_of (canonical_lines p)
+
+-- a canonical text has fewer bytes than this
+abbrev pub canonical_limit : ℕ
+canonical_limit = 4000000

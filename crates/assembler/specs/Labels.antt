@@ -2,7 +2,8 @@
 -- from it on.
 use Rattle.std.specs.Prelude.{ℕ, ◌+◌, ◌||◌, Bool, true, false, if◌then◌else◌, List, [], ◌∷◌, Option, Some, None}
 use Rattle.std.specs.Str.{bytes_eq}
-use Rattle.assembler.specs.Forms.{Form, ThreadLine, LabelLine, WholeLine, NamingLine}
+use Rattle.assembler.specs.Forms.{Form}
+use Rattle.assembler.specs.Forms.{Blank, VarLine, ArrayLine, MonitorLine, ThreadLine, LabelLine, WholeLine, NamingLine, Malformed}
 
 abbrev pub is_thread_line : Form → Bool
 is_thread_line ThreadLine = true
@@ -11,7 +12,13 @@ is_thread_line form = false
 abbrev pub is_instruction : Form → Bool
 is_instruction (WholeLine op) = true
 is_instruction (NamingLine kind name) = true
-is_instruction form = false
+is_instruction Blank = false
+is_instruction (VarLine name start) = false
+is_instruction (ArrayLine name size start) = false
+is_instruction (MonitorLine name) = false
+is_instruction ThreadLine = false
+is_instruction (LabelLine name) = false
+is_instruction Malformed = false
 
 -- whether the line is the label of this name
 abbrev pub bears : List ℕ → Form → Bool

@@ -1,5 +1,6 @@
 pub mod Answers
 pub mod Canonical
+pub mod CodeLines
 pub mod Forms
 pub mod Labels
 pub mod Laws

@@ -1,6 +1,7 @@
 -- Orders read word by word, after the members that were read before.
 use Rattle.std.specs.Prelude.{ℕ, ◌+◌, List, [], ◌∷◌, ◌++◌, length, map, nat_lt, if◌then◌else◌, Option, Some, None, Result, Ok, Err}
-use Rattle.assembler.specs.Orders.{OrderWord, Repeated, members_of, order_limit, repeated_of}
+use Rattle.stride_base.specs.declared.limits.TheConstants.{ORDER_LIMIT}
+use Rattle.assembler.specs.Orders.{OrderWord, Repeated, members_of, repeated_of}
 use Rattle.assembler.specs.Programs.{LineFault}
 use Rattle.assembler.specs.declared.asm_error.AsmKind.TheVariants.{BadNumber, TooMany}
 
@@ -8,7 +9,7 @@ use Rattle.assembler.specs.declared.asm_error.AsmKind.TheVariants.{BadNumber, To
 abbrev pub with_said : List ℕ → ℕ → Option Repeated → Result (List ℕ) LineFault
 with_said order line None = Err (record { kind = BadNumber; line = line })
 with_said order line (Some said) =
-    if nat_lt order_limit (length order + said.times) then Err (record { kind = TooMany; line = line }) else Ok (order ++ members_of said)
+    if nat_lt ORDER_LIMIT (length order + said.times) then Err (record { kind = TooMany; line = line }) else Ok (order ++ members_of said)
 
 abbrev pub with_word : List ℕ → OrderWord → Result (List ℕ) LineFault
 with_word order w = with_said order w.line (repeated_of w.word)

@@ -1,7 +1,8 @@
 -- Orders: the thread numbers that a schedule names one after another.
-use Rattle.std.specs.Prelude.{ℕ, ◌+◌, ◌==◌, List, [], ◌∷◌, ◌++◌, length, map, replicate, nat_lt, if◌then◌else◌, Option, Some, None, is_none, unwrap_or, Result, option_and_then}
+use Rattle.std.specs.Prelude.{ℕ, ◌+◌, ◌^◌, ◌==◌, List, [], ◌∷◌, ◌++◌, length, map, replicate, nat_lt, if◌then◌else◌, Option, Some, None, is_none, unwrap_or, Result, option_and_then}
 use Rattle.std.specs.Option.{option_map}
 use Rattle.std.specs.List.{flat_map}
+use Rattle.stride_base.specs.declared.limits.TheConstants.{ORDER_LIMIT}
 use Rattle.assembler.specs.Forms.{above_zero}
 use Rattle.assembler.specs.Lines.{lines}
 use Rattle.assembler.specs.Numbers.{number}
@@ -9,10 +10,6 @@ use Rattle.assembler.specs.Programs.{LineFault, or_else, unless_fault}
 use Rattle.assembler.specs.Words.{words_of}
 use Rattle.assembler.specs.declared.asm_error.AsmKind.{AsmKind}
 use Rattle.assembler.specs.declared.asm_error.AsmKind.TheVariants.{BadNumber, TooMany}
-
--- the most members of an order
-abbrev pub order_limit : ℕ
-order_limit = 134217728
 
 -- a word before its first `*`, and what stands after that, if there is one
 pub record Halves : Type 0 where
@@ -25,21 +22,21 @@ halves (byte ∷ bytes) =
     let rest = halves bytes in
     if byte == 42 then record { front = []; back = Some bytes } else record { front = byte ∷ rest.front; back = rest.back }
 
--- how often a thread is named: once where no count is given, and otherwise 1 to 134217728 times
+-- how often a thread is named: once where no count is given, and otherwise as often as an order has members at most
 abbrev pub times_of : Option (List ℕ) → Option ℕ
 times_of None = Some 1
-times_of (Some count) = option_and_then above_zero (number (order_limit + 1) count)
+times_of (Some count) = option_and_then above_zero (number (ORDER_LIMIT + 1) count)
 
 -- a thread number and how often it is named
 pub record Repeated : Type 0 where
   pub thread : ℕ
   pub times : ℕ
 
--- what a word `t` or `t*n` says: the number t, below 256, once or n times; none for any other word
+-- what a word `t` or `t*n` says: the number t of 8 bits, once or n times; none for any other word
 abbrev pub repeated_of : List ℕ → Option Repeated
 repeated_of word =
     let parts = halves word in
-    option_and_then (λ thread. option_map (λ times. record { thread = thread; times = times }) (times_of parts.back)) (number 256 parts.front)
+    option_and_then (λ thread. option_map (λ times. record { thread = thread; times = times }) (times_of parts.back)) (number (2 ^ 8) parts.front)
 
 -- the members that a word adds to an order
 abbrev pub members_of : Repeated → List ℕ
@@ -62,7 +59,7 @@ members_in words = flat_map (λ w. unwrap_or (option_map members_of (repeated_of
 -- what is wrong with a word after others: it is of another form, or the order has too many members with it
 abbrev pub word_refusal : List OrderWord → OrderWord → Option AsmKind
 word_refusal before w =
-    if is_none (repeated_of w.word) then Some BadNumber else (if nat_lt order_limit (length (members_in (before ++ w ∷ []))) then Some TooMany else None)
+    if is_none (repeated_of w.word) then Some BadNumber else (if nat_lt ORDER_LIMIT (length (members_in (before ++ w ∷ []))) then Some TooMany else None)
 
 -- the first word from a place on that is refused, after these words
 abbrev pub first_word_fault : List OrderWord → List OrderWord → Option LineFault

@@ -11,7 +11,7 @@ use Rattle.stride_isa.specs.declared.operand.OperandClass.{OperandClass}
 use Rattle.stride_isa.specs.declared.operand.OperandClass.TheVariants as classes
 use Rattle.assembler.specs.Forms.{Form, form_of}
 use Rattle.assembler.specs.Forms.{Blank, VarLine, ArrayLine, MonitorLine, ThreadLine, LabelLine, WholeLine, NamingLine, Malformed}
-use Rattle.assembler.specs.Labels.{Labels, labels_at, is_instruction}
+use Rattle.assembler.specs.Labels.{Labels, labels_at}
 use Rattle.assembler.specs.Lines.{lines}
 use Rattle.assembler.specs.Words.{words_of}
 use Rattle.assembler.specs.declared.asm_error.AsmKind.{AsmKind}
@@ -53,19 +53,38 @@ is_bad_line p ThreadLine = false
 is_bad_line p (VarLine name start) = has_thread p
 is_bad_line p (ArrayLine name size start) = has_thread p
 is_bad_line p (MonitorLine name) = has_thread p
-is_bad_line p form = not (has_thread p)
+is_bad_line p (LabelLine name) = not (has_thread p)
+is_bad_line p (WholeLine op) = not (has_thread p)
+is_bad_line p (NamingLine kind name) = not (has_thread p)
 
 -- a word where a number is wanted is no number of the range
 abbrev pub is_bad_number : Form → Bool
 is_bad_number (VarLine name start) = is_none start
 is_bad_number (ArrayLine name size start) = is_none size || is_none start
 is_bad_number (WholeLine op) = is_none op
-is_bad_number form = false
+is_bad_number Blank = false
+is_bad_number (MonitorLine name) = false
+is_bad_number ThreadLine = false
+is_bad_number (LabelLine name) = false
+is_bad_number (NamingLine kind name) = false
+is_bad_number Malformed = false
 
--- the line names what is not there
-abbrev pub is_unknown : Labels → Listing → Form → Bool
-is_unknown labels p (NamingLine kind name) = is_none (find_named (class kind) labels p name)
-is_unknown labels p form = false
+-- what is wrong with naming what has this position, where the operand has this class
+abbrev pub unknown_by : OperandClass → Option ℕ → Option AsmKind
+unknown_by wanted (Some position) = None
+unknown_by wanted None = Some (UnknownName wanted)
+
+-- the line names what is not there: the refusal tells the class of what was wanted
+abbrev pub unknown : Labels → Listing → Form → Option AsmKind
+unknown labels p (NamingLine kind name) = unknown_by (class kind) (find_named (class kind) labels p name)
+unknown labels p Blank = None
+unknown labels p (VarLine name start) = None
+unknown labels p (ArrayLine name size start) = None
+unknown labels p (MonitorLine name) = None
+unknown labels p ThreadLine = None
+unknown labels p (LabelLine name) = None
+unknown labels p (WholeLine op) = None
+unknown labels p Malformed = None
 
 -- the line declares a name that is declared, or is a label that stands on an earlier line of the thread
 abbrev pub is_twice : Labels → Listing → Form → Bool
@@ -73,11 +92,19 @@ is_twice labels p (VarLine name start) = is_taken p name
 is_twice labels p (ArrayLine name size start) = is_taken p name
 is_twice labels p (MonitorLine name) = is_taken p name
 is_twice labels p (LabelLine name) = labels.stands name
-is_twice labels p form = false
+is_twice labels p Blank = false
+is_twice labels p ThreadLine = false
+is_twice labels p (WholeLine op) = false
+is_twice labels p (NamingLine kind name) = false
+is_twice labels p Malformed = false
 
 -- whether a program with so many more cells has more than it may have
 abbrev pub overfills : Listing → ℕ → Bool
 overfills p size = nat_lt cell_limit (cell_count p.decls + size)
+
+-- whether a program has as many instructions as it may have
+abbrev pub has_all_instructions : Listing → Bool
+has_all_instructions p = nat_le instruction_limit (instruction_count p.threads)
 
 -- the line is one more than a program may have: of cells, monitors, threads or instructions
 abbrev pub is_too_many : Listing → Form → Bool
@@ -85,12 +112,21 @@ is_too_many p (VarLine name start) = overfills p 1
 is_too_many p (ArrayLine name size start) = overfills p (unwrap_or size 0)
 is_too_many p (MonitorLine name) = nat_le monitor_limit (length p.monitors)
 is_too_many p ThreadLine = nat_le thread_limit (length p.threads)
-is_too_many p form = if is_instruction form then nat_le instruction_limit (instruction_count p.threads) else false
+is_too_many p (WholeLine op) = has_all_instructions p
+is_too_many p (NamingLine kind name) = has_all_instructions p
+is_too_many p Blank = false
+is_too_many p (LabelLine name) = false
+is_too_many p Malformed = false
+
+-- the first where there is one, or else the second
+abbrev pub or_else : {X : Type 0} → Option X → Option X → Option X
+or_else (Some x) second = Some x
+or_else None second = second
 
 -- what is wrong with the line: the first kind in this order, or nothing
 abbrev pub refusal : Labels → Listing → Form → Option AsmKind
 refusal labels p form =
-    if is_bad_line p form then Some BadLine else (if is_bad_number form then Some BadNumber else (if is_unknown labels p form then Some UnknownName else (if is_twice labels p form then Some Twice else (if is_too_many p form then Some TooMany else None))))
+    if is_bad_line p form then Some BadLine else (if is_bad_number form then Some BadNumber else or_else (unknown labels p form) (if is_twice labels p form then Some Twice else (if is_too_many p form then Some TooMany else None)))
 
 -- the program with what the line adds to it
 abbrev pub added : Labels → Listing → Form → Listing
@@ -100,7 +136,9 @@ added labels p (MonitorLine name) = with_monitor p name
 added labels p ThreadLine = with_thread p
 added labels p (WholeLine op) = with_op p (unwrap_or op ops.Halt)
 added labels p (NamingLine kind name) = with_op p (op_with kind (unwrap_or (find_named (class kind) labels p name) 0))
-added labels p form = p
+added labels p Blank = p
+added labels p (LabelLine name) = p
+added labels p Malformed = p
 
 -- the program of the lines before a place, the last of which stands first, where these lines stand from it on
 abbrev pub made : List Form → List Form → Listing
@@ -116,11 +154,6 @@ pub record LineFault : Type 0 where
 abbrev pub fault_of : List Form → Form → List Form → Option LineFault
 fault_of before form rest =
     option_map (λ kind. record { kind = kind; line = length before + 1 }) (refusal (labels_at before (form ∷ rest)) (made before (form ∷ rest)) form)
-
--- the first where there is one, or else the second
-abbrev pub or_else : {X : Type 0} → Option X → Option X → Option X
-or_else (Some x) second = Some x
-or_else None second = second
 
 -- the first fault of the lines from a place on
 abbrev pub first_fault : List Form → List Form → Option LineFault

@@ -1,15 +1,15 @@
 -- What the steps of reading refuse, seen beside what is wrong with a line.
-use Rattle.std.specs.Prelude.{◌≡◌, ℕ, Bool, false, nat_le, Option, Some, None, is_none, Result, Ok, Err, if◌then◌else◌}
-use Rattle.stride_isa.specs.Limits.{instruction_limit}
-use Rattle.stride_isa.specs.Listing.{Listing, instruction_count}
+use Rattle.std.specs.Prelude.{◌≡◌, ℕ, Bool, false, Option, Some, None, Result, Ok, Err, if◌then◌else◌}
+use Rattle.stride_isa.specs.Listing.{Listing}
+use Rattle.stride_isa.specs.declared.operand.OperandClass.{OperandClass}
 use Rattle.stride_isa.specs.declared.program.AddError.{AddError}
 use Rattle.stride_isa.specs.declared.program.AddError.TheVariants as additions
 use Rattle.assembler.specs.Labels.{Labels}
-use Rattle.assembler.specs.Programs.{has_thread}
+use Rattle.assembler.specs.Programs.{has_all_instructions, has_thread, or_else, unknown_by}
 use Rattle.assembler.specs.declared.asm_error.AsmError.{AsmError}
 use Rattle.assembler.specs.declared.asm_error.AsmError.TheVariants as errors
 use Rattle.assembler.specs.declared.asm_error.AsmKind.{AsmKind}
-use Rattle.assembler.specs.declared.asm_error.AsmKind.TheVariants.{BadLine, UnknownName, Twice, TooMany}
+use Rattle.assembler.specs.declared.asm_error.AsmKind.TheVariants.{BadLine, Twice, TooMany}
 use Rattle.assembler.specs.declared.refusal.Refusal.{Refusal}
 use Rattle.assembler.specs.declared.refusal.Refusal.TheVariants as refusals
 
@@ -38,10 +38,10 @@ wrong_by taken full = if taken then Some Twice else (if full then Some TooMany e
 abbrev pub no_labels : Labels
 no_labels = record { place = λ name. None; stands = λ name. false }
 
--- what is wrong with an instruction that names what has this position
-abbrev pub wrong_naming : Listing → Option ℕ → Option AsmKind
-wrong_naming p position =
-    if has_thread p then (if is_none position then Some UnknownName else wrong_by false (nat_le instruction_limit (instruction_count p.threads))) else Some BadLine
+-- what is wrong with an instruction whose operand, of this class, names what has this position
+abbrev pub wrong_naming : Listing → OperandClass → Option ℕ → Option AsmKind
+wrong_naming p wanted position =
+    if has_thread p then or_else (unknown_by wanted position) (wrong_by false (has_all_instructions p)) else Some BadLine
 
 -- what is wrong with a label, where it may stand on an earlier line of the thread
 abbrev pub wrong_label : Listing → Bool → Option AsmKind

@@ -39,7 +39,12 @@ abbrev pub IsWellDeclared : Form → Type 0
 IsWellDeclared (VarLine name start) = is_name name ≡ true
 IsWellDeclared (ArrayLine name size start) = (is_name name ≡ true) × IfSome size (λ s. 1 ≤ s) × IfSome size (λ s. s ≤ array_limit)
 IsWellDeclared (MonitorLine name) = is_name name ≡ true
-IsWellDeclared form = Unit {0}
+IsWellDeclared Blank = Unit {0}
+IsWellDeclared ThreadLine = Unit {0}
+IsWellDeclared (LabelLine name) = Unit {0}
+IsWellDeclared (WholeLine op) = Unit {0}
+IsWellDeclared (NamingLine kind name) = Unit {0}
+IsWellDeclared Malformed = Unit {0}
 
 -- the labels that are kept, as a line sees them
 abbrev pub labels_seen : ThreadLabels → Labels

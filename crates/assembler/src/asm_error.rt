@@ -1,5 +1,6 @@
 //! `AsmError`: why a text was not read.
 use stride_base::NoMemory as OutOfMemory;
+use stride_isa::OperandClass;
 
 /// What is wrong with a line, in the order in which one line's faults are told.
 #[derive(Clone, Copy, Debug, PartialEq, Eq)]
@@ -8,8 +9,8 @@ pub enum AsmKind {
     BadLine,
     /// A word where a number is wanted is no number of the range.
     BadNumber,
-    /// What the line names is not there.
-    UnknownName,
+    /// The name that is wanted for an operand of this class is not there.
+    UnknownName { wanted: OperandClass },
     /// The name or the label stands on an earlier line.
     Twice,
     /// The line is one more than there may be: of cells, monitors, threads, instructions or members of an order.

@@ -14,6 +14,7 @@ use crate::lines::take_line;
 use crate::refusal::Refusal;
 use crate::thread_labels::ThreadLabels;
 use std::alloc::Global;
+use stride_base::limits::INPUT_LIMIT;
 use stride_isa::Program;
 
 // Reads a line, after which the text goes on with `after`.
@@ -25,7 +26,7 @@ fn read_line<'a>(
     after: &'a [u8],
 ) -> Result<(), Refusal>
     requires step { IsInStep assembly.old }
-    requires short { length after.now ≤ 268435456 }
+    requires short { length after.now ≤ INPUT_LIMIT }
     ensures refused { Refuses (refusal (labels_seen labels.old) assembly.old.program (form_of (words_of bytes.now))) result }
     ensures added { OnOk result (assembly.new.program ≡ added (labels_seen labels.old) assembly.old.program (form_of (words_of bytes.now))) }
     ensures labels { OnOk result (labels_seen labels.new ≡ labels_behind (labels_seen labels.old) (form_of (words_of bytes.now)) (forms_in after.now)) }
@@ -39,7 +40,7 @@ fn read_line<'a>(
 
 /// The program that the text spells, or the first line that is refused.
 pub fn assemble(alloc: Global, text: &[u8]) -> Result<Program, AsmError>
-    requires { length text.now ≤ 268435456 }
+    requires { length text.now ≤ INPUT_LIMIT }
     ensures { IsAnswer (λ program. program) result (spelled text.now) }
 {
     let Ok(mut labels) = ThreadLabels::of(alloc, text) else {

@@ -1,12 +1,11 @@
 //! `Assembly`: a program while its lines are read.
-ghost use Rattle.std.specs.Prelude.{◌≡◌, true, false, unwrap_or, nat_le, IfSome, OnOk};
+ghost use Rattle.std.specs.Prelude.{◌≡◌, true, false, unwrap_or, IfSome, OnOk};
 ghost use Rattle.stride_isa.specs.Instructions.{class, op_with};
-ghost use Rattle.stride_isa.specs.Limits.{instruction_limit};
-ghost use Rattle.stride_isa.specs.Listing.{empty, is_taken, cells_of, instruction_count, with_decl, with_op};
+ghost use Rattle.stride_isa.specs.Listing.{empty, is_taken, cells_of, with_decl, with_op};
 ghost use Rattle.stride_isa.specs.Names.{is_name};
 ghost use Rattle.stride_isa.specs.WellFormed.{FitsClass, HasSize};
 ghost use Rattle.assembler.specs.Forms.{VarLine, ArrayLine, MonitorLine, ThreadLine, WholeLine};
-ghost use Rattle.assembler.specs.Programs.{added, find_named, has_thread, overfills, refusal};
+ghost use Rattle.assembler.specs.Programs.{added, find_named, has_all_instructions, has_thread, overfills, refusal};
 ghost use Rattle.assembler.specs.Refusals.{Refuses, no_labels, wrong_by, wrong_label, wrong_naming};
 ghost use Rattle.assembler.specs.Seen.{form, labels_seen, IsInStep, IsWellDeclared};
 
@@ -142,7 +141,7 @@ impl<'a> Assembly<'a> {
     fn add_op(&mut self, op: Op) -> Result<(), Refusal>
         requires step { IsInStep self.old }
         requires begun { has_thread self.old.program ≡ true }
-        ensures refused { Refuses (wrong_by false (nat_le instruction_limit (instruction_count self.old.program.threads))) result }
+        ensures refused { Refuses (wrong_by false (has_all_instructions self.old.program)) result }
         ensures added { OnOk result (self.new.program ≡ with_op self.old.program op) }
         ensures step { OnOk result (IsInStep self.new) }
     {
@@ -183,7 +182,7 @@ impl<'a> Assembly<'a> {
     fn add_naming(&mut self, kind: OpKind, position: Option<u32>) -> Result<(), Refusal>
         requires step { IsInStep self.old }
         requires fits { IfSome position (FitsClass (class kind)) }
-        ensures refused { Refuses (wrong_naming self.old.program position) result }
+        ensures refused { Refuses (wrong_naming self.old.program (class kind) position) result }
         ensures added { OnOk result (self.new.program ≡ with_op self.old.program (op_with kind (unwrap_or position 0))) }
         ensures step { OnOk result (IsInStep self.new) }
     {
@@ -191,7 +190,9 @@ impl<'a> Assembly<'a> {
             return Err(Refusal::Bad(AsmKind::BadLine));
         }
         let Some(at) = position else {
-            return Err(Refusal::Bad(AsmKind::UnknownName));
+            return Err(Refusal::Bad(AsmKind::UnknownName {
+                wanted: class_of(kind),
+            }));
         };
         self.add_op(op_with(kind, u64::from(at)))
     }

@@ -6,6 +6,7 @@ ghost use Rattle.stride_isa.specs.Names.{is_name as is_name_word};
 ghost use Rattle.stride_isa.specs.WellFormed.{FitsClass};
 ghost use Rattle.assembler.specs.Forms.{VarLine, ArrayLine, MonitorLine, NamingLine};
 ghost use Rattle.assembler.specs.Forms.{named, size_number, var_form, array_form, operand_form, number_form, name_form, only_name as only_name_of, label_form, form_of, alone as alone_form};
+ghost use Rattle.assembler.specs.Labels.{is_instruction as is_instruction_line, is_thread_line};
 ghost use Rattle.assembler.specs.Seen.{form, words_seen};
 ghost use Rattle.assembler.specs.Words.{words_of};
 
@@ -40,6 +41,29 @@ pub(crate) enum Line<'a> {
     Naming(OpKind, &'a [u8]),
     /// Of none of the forms.
     Malformed,
+}
+
+/// Whether the line begins a thread.
+pub(crate) fn is_thread(line: Line<'_>) -> bool
+    ensures { result ≡ is_thread_line (form line.entry) }
+{
+    matches!(line, Line::Thread)
+}
+
+/// Whether the line is an instruction.
+pub(crate) fn is_instruction(line: Line<'_>) -> bool
+    ensures { result ≡ is_instruction_line (form line.entry) }
+{
+    match line {
+        Line::Whole(_) | Line::Naming(_, _) => true,
+        Line::Blank
+        | Line::Var { .. }
+        | Line::Array { .. }
+        | Line::Monitor(_)
+        | Line::Thread
+        | Line::Label(_)
+        | Line::Malformed => false,
+    }
 }
 
 fn is_name(word: &[u8]) -> bool

@@ -1,8 +1,8 @@
 //! `read_order`: the order that a text spells.
-ghost use Rattle.std.specs.Prelude.{◌≡◌, ◌≤◌, ◌++◌, length, replicate, IfOk, IfSome, IfNone, OnOk, Some, None};
+ghost use Rattle.std.specs.Prelude.{◌≡◌, ◌+◌, ◌≤◌, ◌++◌, length, replicate, IfOk, IfSome, IfNone, OnOk, Some, None};
 ghost use Rattle.std.specs.Option.{option_map};
 ghost use Rattle.assembler.specs.Answers.{IsAnswer};
-ghost use Rattle.assembler.specs.Orders.{halves, order_limit, order_spelled, repeated_of, times_of};
+ghost use Rattle.assembler.specs.Orders.{halves, order_spelled, repeated_of, times_of};
 ghost use Rattle.assembler.specs.OrderReading.{line_words, with_word, with_words};
 ghost use Rattle.assembler.specs.Words.{words_of};
 
@@ -11,7 +11,7 @@ use crate::lines::take_line;
 use crate::numbers::number_up_to;
 use crate::words::{before_comment, take_word};
 use std::alloc::Global;
-use stride_base::limits::ORDER_LIMIT;
+use stride_base::limits::{INPUT_LIMIT, ORDER_LIMIT};
 use stride_base::{List, NoMemory};
 
 /// A thread and how many times in a row it is named.
@@ -38,7 +38,7 @@ fn split_star(word: &[u8]) -> (&[u8], Option<&[u8]>)
 /// How many times a word with this count names a thread.
 fn times_in(count: Option<&[u8]>) -> Option<usize>
     ensures times { result ≡ times_of (option_map (λ c. c.now) count.entry) }
-    ensures few { IfSome result (λ times. times ≤ order_limit) }
+    ensures few { IfSome result (λ times. times ≤ ORDER_LIMIT) }
 {
     let Some(digits) = count else {
         return Some(1);
@@ -56,11 +56,11 @@ fn times_in(count: Option<&[u8]>) -> Option<usize>
 // What a word of an order says, `t` or `t*n`, of whatever length.
 fn spelled_run(word: &[u8]) -> Option<Run>
     ensures run { IfSome result (λ run. repeated_of word.now ≡ Some (record { thread = run.thread; times = run.times })) }
-    ensures few { IfSome result (λ run. run.times ≤ order_limit) }
+    ensures few { IfSome result (λ run. run.times ≤ ORDER_LIMIT) }
     ensures none { IfNone result (repeated_of word.now ≡ None) }
 {
     let (front, back) = split_star(word);
-    let Some(thread) = number_up_to(255, front) else {
+    let Some(thread) = number_up_to(u64::from(u8::MAX), front) else {
         return None;
     };
     let Some(times) = times_in(back) else {
@@ -76,7 +76,7 @@ fn spelled_run(word: &[u8]) -> Option<Run>
 #[tactic(auto, using(crate::proofs::OrderLemmas::digit_run))]
 fn run_of(word: &[u8]) -> Option<Run>
     ensures run { IfSome result (λ run. repeated_of word.now ≡ Some (record { thread = run.thread; times = run.times })) }
-    ensures few { IfSome result (λ run. run.times ≤ order_limit) }
+    ensures few { IfSome result (λ run. run.times ≤ ORDER_LIMIT) }
     ensures none { IfNone result (repeated_of word.now ≡ None) }
 {
     match word {
@@ -104,7 +104,7 @@ fn push_run(order: &mut List<u8>, run: Run) -> Result<(), NoMemory>
 
 fn push_word(order: &mut List<u8>, word: &[u8], line: u32) -> Result<(), AsmError>
     ensures added { IsAnswer (λ _. order.new.items) result (with_word order.old.items (record { line = line; word = word.now })) }
-    ensures within { OnOk result (length order.new.items ≤ order_limit) }
+    ensures within { OnOk result (length order.new.items ≤ ORDER_LIMIT) }
 {
     let Some(run) = run_of(word) else {
         return Err(AsmError::Bad {
@@ -123,9 +123,9 @@ fn push_word(order: &mut List<u8>, word: &[u8], line: u32) -> Result<(), AsmErro
 }
 
 fn push_line(order: &mut List<u8>, line: &[u8], number: u32) -> Result<(), AsmError>
-    requires { length order.old.items ≤ order_limit }
+    requires { length order.old.items ≤ ORDER_LIMIT }
     ensures added { IsAnswer (λ _. order.new.items) result (with_words order.old.items (line_words number (words_of line.now))) }
-    ensures within { OnOk result (length order.new.items ≤ order_limit) }
+    ensures within { OnOk result (length order.new.items ≤ ORDER_LIMIT) }
 {
     let mut rest = before_comment(line);
     while let Some((word, after)) = take_word(rest) {
@@ -138,11 +138,11 @@ fn push_line(order: &mut List<u8>, line: &[u8], number: u32) -> Result<(), AsmEr
 /// The order that the text spells, whose first line has this number, or its first word that is refused.
 #[tactic(auto, using(crate::proofs::OrderLemmas::line_steps))]
 pub fn read_order(alloc: Global, text: &[u8], first_line: u32) -> Result<List<u8>, AsmError>
-    requires short { length text.now ≤ 268435456 }
+    requires short { length text.now ≤ INPUT_LIMIT }
     requires from_one { 1 ≤ first_line }
-    requires small { first_line ≤ 268435457 }
+    requires small { first_line ≤ INPUT_LIMIT + 1 }
     ensures spelled { IsAnswer (λ order. order.items) result (order_spelled first_line text.now) }
-    ensures within { IfOk result (λ order. length order.items ≤ order_limit) }
+    ensures within { IfOk result (λ order. length order.items ≤ ORDER_LIMIT) }
 {
     let mut order = List::new(alloc);
     let mut number = first_line;

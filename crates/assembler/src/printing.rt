@@ -1,7 +1,7 @@
 //! `print_program`: the canonical text of a program.
 ghost use Rattle.std.specs.Prelude.{◌≡◌, ◌<◌, ◌∷◌, ◌++◌, length, IfOk, OnOk, Ok, decimal};
 ghost use Rattle.std.specs.List.{flat_map};
-ghost use Rattle.assembler.specs.Canonical.{canonical, code_lines, decl_words, label_lines, label_name, line_of, monitor_words, op_words, operand_words, thread_lines};
+ghost use Rattle.assembler.specs.Canonical.{canonical_limit, canonical, code_lines, decl_words, label_lines, label_name, line_of, monitor_words, op_words, operand_words, thread_lines};
 ghost use Rattle.assembler.specs.Programs.{spelled};
 ghost use Rattle.stride_isa.specs.Instructions.{operand};
 ghost use Rattle.stride_isa.specs.Listing.{code_of, op_at};
@@ -180,7 +180,7 @@ fn put_threads(alloc: Global, text: &mut List<u8>, program: &Checked) -> Result<
 /// The canonical text of a program, which spells the same program.
 pub fn print_program(alloc: Global, program: &Checked) -> Result<List<u8>, NoMemory>
     ensures canonical { IfOk result (λ text. text.items ≡ canonical program.now) }
-    ensures short { IfOk result (λ text. length text.items < 4000000) }
+    ensures short { IfOk result (λ text. length text.items < canonical_limit) }
     ensures read_back { IfOk result (λ text. spelled text.items ≡ Ok program.now) }
 {
     program.facts();

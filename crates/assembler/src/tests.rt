@@ -5,7 +5,7 @@ use std::fmt::Write;
 use std::process::Abort;
 use std::test::Fail;
 use stride_base::limits::INPUT_LIMIT;
-use stride_isa::{AddError, Name, check};
+use stride_isa::{AddError, Name, OperandClass, check};
 
 /// The refusal of a text, or `None` where it is read.
 fn refusal(rt: &impl Abort, alloc: Global, text: &[u8]) -> Option<AsmError> {
@@ -15,6 +15,10 @@ fn refusal(rt: &impl Abort, alloc: Global, text: &[u8]) -> Option<AsmError> {
 
 fn bad(kind: AsmKind, line: u32) -> Option<AsmError> {
     Some(AsmError::Bad { kind, line })
+}
+
+fn unknown(wanted: OperandClass) -> AsmKind {
+    AsmKind::UnknownName { wanted }
 }
 
 /// A piece, then another this many times, then a third.
@@ -139,7 +143,7 @@ fn texts_that_are_read(rt: HostRuntime) {
 
 #[test]
 fn lines_that_are_refused(rt: HostRuntime) {
-    let rows: [(&[u8], AsmKind, u32); 48] = [
+    let rows: [(&[u8], AsmKind, u32); 49] = [
         (b"order\n", AsmKind::BadLine, 1),
         (b"Var x\n", AsmKind::BadLine, 1),
         (b"var\n", AsmKind::BadLine, 1),
@@ -187,12 +191,33 @@ fn lines_that_are_refused(rt: HostRuntime) {
         ),
         (b"thread\nget 16\n", AsmKind::BadNumber, 2),
         (b"thread\nset x\n", AsmKind::BadNumber, 2),
-        (b"thread\njump a\nthread\na:\n", AsmKind::UnknownName, 2),
-        (b"monitor x\nthread\nread x\n", AsmKind::UnknownName, 3),
-        (b"var x\nthread\nenter x\n", AsmKind::UnknownName, 3),
-        (b"var x\nthread\njz x\n", AsmKind::UnknownName, 3),
-        (b"thread\nxchg x\n", AsmKind::UnknownName, 2),
-        (b"monitor m\nthread\ncas m\n", AsmKind::UnknownName, 3),
+        (
+            b"thread\njump a\nthread\na:\n",
+            unknown(OperandClass::Label),
+            2,
+        ),
+        (
+            b"monitor x\nthread\nread x\n",
+            unknown(OperandClass::Variable),
+            3,
+        ),
+        (
+            b"var x\nthread\nenter x\n",
+            unknown(OperandClass::Monitor),
+            3,
+        ),
+        (b"var x\nthread\njz x\n", unknown(OperandClass::Label), 3),
+        (b"thread\nxchg x\n", unknown(OperandClass::Variable), 2),
+        (
+            b"monitor m\nthread\ncas m\n",
+            unknown(OperandClass::Variable),
+            3,
+        ),
+        (
+            b"var x\nthread\nreadat y\n",
+            unknown(OperandClass::Array),
+            3,
+        ),
         (b"var x\narray x 1\n", AsmKind::Twice, 2),
         (b"var x\nmonitor x\n", AsmKind::Twice, 2),
         (b"thread\na:\nhalt\na: # again\n", AsmKind::Twice, 4),
@@ -212,12 +237,16 @@ fn the_first_fault_is_told(rt: HostRuntime) {
         (b"array a 256\nvar a\n", AsmKind::Twice, 2),
         // Kinds on two lines: the least line, whatever the order of the kinds.
         (b"var x\nvar x\norder\n", AsmKind::Twice, 2),
-        (b"thread\njump nowhere\na:\na:\n", AsmKind::UnknownName, 2),
+        (
+            b"thread\njump nowhere\na:\na:\n",
+            unknown(OperandClass::Label),
+            2,
+        ),
         (b"thread\na:\na:\njump nowhere\n", AsmKind::Twice, 3),
         (b"thread\njump end\nbad line\nend:\n", AsmKind::BadLine, 3),
         (
             b"thread\njump end\nbad line\nhalt\n",
-            AsmKind::UnknownName,
+            unknown(OperandClass::Label),
             2,
         ),
         // The line begins no thread.
@@ -225,6 +254,25 @@ fn the_first_fault_is_told(rt: HostRuntime) {
     ];
     for (text, kind, line) in rows {
         assert_eq!(rt; refusal(&rt, rt.alloc(), text), bad(kind, line));
+    }
+}
+
+#[test]
+fn the_line_of_an_instruction_is_found(rt: HostRuntime) {
+    let text: &[u8] =
+        b"var x # 1\n\nthread # 3\nread x # 4\na: # 5\n# 6\njump a # 7\nthread # 8\n\nthread\nhalt # 11";
+    let rows = [
+        (0, 0, 4),
+        (0, 1, 7),
+        // No instruction of this position, no code, no thread.
+        (0, 2, 3),
+        (1, 0, 8),
+        (2, 0, 11),
+        (3, 0, 0),
+    ];
+    assert!(rt; text.len() <= INPUT_LIMIT);
+    for (thread, instruction, line) in rows {
+        assert_eq!(rt; line_of_code(text, thread, instruction), line);
     }
 }
 

@@ -1,36 +1,26 @@
 //! `ThreadLabels`: the labels of a thread.
 ghost use Rattle.std.specs.Prelude.{◌≡◌, ◌+◌, ◌<◌, ◌≤◌, ◌^◌, ℕ, List, [], None, Some, if◌then◌else◌, length, IfOk, OnOk};
-ghost use Rattle.assembler.specs.Labels.{bears, is_instruction, is_thread_line, labels_at, place_of};
+ghost use Rattle.assembler.specs.Labels.{bears, is_instruction as is_instruction_line, labels_at, place_of};
 ghost use Rattle.assembler.specs.Naming.{position_of};
 ghost use Rattle.assembler.specs.Programs.{forms_in, or_else};
 ghost use Rattle.assembler.specs.Seen.{form, labels_seen, labels_behind};
 
-use crate::line::{Line, line_at};
+use crate::line::{Line, is_instruction, is_thread, line_at};
 use crate::lines::take_line;
 use crate::names::Names;
 use std::alloc::Global;
 use stride_base::NoMemory;
-
-fn is_thread(line: Line<'_>) -> bool
-    ensures { result ≡ is_thread_line (form line.entry) }
-{
-    matches!(line, Line::Thread)
-}
+use stride_base::limits::INPUT_LIMIT;
 
 // The position of the next instruction after a line, where it had this position before it.
 fn position_behind(line: Line<'_>, position: u32) -> u32
     requires { position + 1 < 2 ^ 32 }
-    ensures { result ≡ (if is_instruction (form line.entry) then position + 1 else position) }
+    ensures { result ≡ (if is_instruction_line (form line.entry) then position + 1 else position) }
 {
-    match line {
-        Line::Whole(_) | Line::Naming(_, _) => position + 1,
-        Line::Blank
-        | Line::Var { .. }
-        | Line::Array { .. }
-        | Line::Monitor(_)
-        | Line::Thread
-        | Line::Label(_)
-        | Line::Malformed => position,
+    if is_instruction(line) {
+        position + 1
+    } else {
+        position
     }
 }
 
@@ -41,13 +31,20 @@ fn keep_label<'a>(places: &mut Names<'a>, line: Line<'a>, position: u32) -> Resu
 {
     match line {
         Line::Label(name) => places.keep_first(name, position),
-        _ => Ok(()),
+        Line::Blank
+        | Line::Var { .. }
+        | Line::Array { .. }
+        | Line::Monitor(_)
+        | Line::Thread
+        | Line::Whole(_)
+        | Line::Naming(_, _)
+        | Line::Malformed => Ok(()),
     }
 }
 
 // The position of each label of the thread whose lines begin here.
 fn places_in(alloc: Global, text: &[u8]) -> Result<Names<'_>, NoMemory>
-    requires { length text.now ≤ 268435456 }
+    requires { length text.now ≤ INPUT_LIMIT }
     ensures { IfOk result (λ places. (name : List ℕ) → position_of places name ≡ place_of name 0 (forms_in text.now)) }
 {
     let mut places = Names::new(alloc);
@@ -77,7 +74,7 @@ pub(crate) struct ThreadLabels<'a> {
 impl<'a> ThreadLabels<'a> {
     /// The labels of the thread whose lines begin here, none of which is passed yet.
     pub(crate) fn of(alloc: Global, text: &'a [u8]) -> Result<ThreadLabels<'a>, NoMemory>
-        requires { length text.now ≤ 268435456 }
+        requires { length text.now ≤ INPUT_LIMIT }
         ensures { IfOk result (λ labels. labels_seen labels ≡ labels_at [] (forms_in text.now)) }
     {
         let places = places_in(alloc, text)?;
@@ -106,7 +103,7 @@ impl<'a> ThreadLabels<'a> {
         line: Line<'a>,
         after: &'a [u8],
     ) -> Result<(), NoMemory>
-        requires { length after.now ≤ 268435456 }
+        requires { length after.now ≤ INPUT_LIMIT }
         ensures { OnOk result (labels_seen self.new ≡ labels_behind (labels_seen self.old) (form line.entry) (forms_in after.now)) }
     {
         match line {
@@ -115,7 +112,13 @@ impl<'a> ThreadLabels<'a> {
                 Ok(())
             }
             Line::Label(name) => self.passed.insert(name, 0),
-            _ => Ok(()),
+            Line::Blank
+            | Line::Var { .. }
+            | Line::Array { .. }
+            | Line::Monitor(_)
+            | Line::Whole(_)
+            | Line::Naming(_, _)
+            | Line::Malformed => Ok(()),
         }
     }
 }

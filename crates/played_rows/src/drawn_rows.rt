@@ -48,7 +48,7 @@ fn leave_out_refused(
 ) -> Result<(), Fail> {
     for _ in 0..members.len() {
         let order = order_text(alloc, members)?;
-        let Played::Refused(place) = played_plainly(rt, alloc, text, order.as_str())? else {
+        let Played::Refused(place, _) = played_plainly(rt, alloc, text, order.as_str())? else {
             return Ok(());
         };
         let place = place as usize;

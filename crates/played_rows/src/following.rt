@@ -29,8 +29,14 @@ fn followed_by<L: Ledger, R: Threads + Wait + Sync>(
     let mut sink = MemSink::new(alloc, ROOM, ROOM, &[])?;
     match offline(alloc, &["follow"], &mut source, &mut sink, &mut steps) {
         Status::Done => Ok(Played::Report(String::from_utf8(sink.bytes().to_vec(alloc)?)?)),
-        Status::NotEnabled { place } => Ok(Played::Refused(place)),
-        _ => Err("neither a report nor a refused place")?,
+        Status::NotEnabled { place, fault } => Ok(Played::Refused(place, fault)),
+        Status::Usage
+        | Status::ReadFault
+        | Status::TooLong
+        | Status::Program { .. }
+        | Status::Bundle { .. }
+        | Status::WriteFault
+        | Status::NoMemory => Err("neither a report nor a refused place")?,
     }
 }
 

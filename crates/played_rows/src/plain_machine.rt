@@ -4,6 +4,8 @@ ghost use Rattle.std.specs.Prelude.{◌<◌, length};
 
 use std::alloc::{AllocError, Global};
 use std::fmt::Write;
+use stride_cli::MemberFault;
+use stride_isa::limits::{LOCAL_COUNT, MONITOR_LIMIT};
 use stride_isa::{Checked, Op};
 
 /// How a thread stands.
@@ -20,7 +22,7 @@ struct Thread {
     code: Vec<Op>,
     pc: usize,
     stack: Vec<u64>,
-    locals: [u64; 16],
+    locals: [u64; LOCAL_COUNT],
     made: u32,
     fate: Fate,
 }
@@ -29,7 +31,7 @@ struct Thread {
 #[derive(Drop)]
 struct Shared {
     rows: Vec<Vec<u64>>,
-    holders: [Option<usize>; 64],
+    holders: [Option<usize>; MONITOR_LIMIT],
     transcript: String,
 }
 
@@ -44,25 +46,67 @@ struct Machine {
 #[derive(Debug, PartialEq, Eq, Drop)]
 pub(crate) enum Played {
     Report(String),
-    Refused(u32),
+    Refused(u32, MemberFault),
 }
 
-/// The word that an instruction makes of the two topmost, or `None` where it can't or is another.
-fn of_two(op: Op, left: u64, right: u64) -> Option<u64> {
+/// What has to be known of an instruction before it is made.
+#[derive(Clone, Copy)]
+enum Look {
+    /// It touches nothing that another thread can see, and can always be done.
+    Plain,
+    /// It divides by the topmost word.
+    Division,
+    /// It ends the thread.
+    Halt,
+    /// It is shared, and looks at a variable.
+    Variable,
+    /// It is shared, and looks at the cell of this array that the topmost word names.
+    Member(u32),
+    /// It enters this monitor.
+    Enter(u32),
+    /// It exits this monitor.
+    Exit(u32),
+}
+
+/// A shared instruction at which a thread stands.
+#[derive(Clone, Copy)]
+enum Stop {
+    /// One that waits for nothing.
+    Free,
+    /// It enters this monitor, and waits while a thread holds it.
+    Enter(u32),
+}
+
+fn look_of(op: Op) -> Look {
     match op {
-        Op::Add => Some(left.wrapping_add(right)),
-        Op::Sub => Some(left.wrapping_sub(right)),
-        Op::Mul => Some(left.wrapping_mul(right)),
-        Op::Div => left.checked_div(right),
-        Op::Rem => left.checked_rem(right),
-        Op::And => Some(left & right),
-        Op::Or => Some(left | right),
-        Op::Xor => Some(left ^ right),
-        Op::Shl => Some(doubled(left, right % 64)),
-        Op::Shr => Some(halved(left, right % 64)),
-        Op::Eq => Some(u64::from(left == right)),
-        Op::Lt => Some(u64::from(left < right)),
-        _ => None,
+        Op::Push(_)
+        | Op::Dup
+        | Op::Drop
+        | Op::Swap
+        | Op::Over
+        | Op::Add
+        | Op::Sub
+        | Op::Mul
+        | Op::And
+        | Op::Or
+        | Op::Xor
+        | Op::Shl
+        | Op::Shr
+        | Op::Eq
+        | Op::Lt
+        | Op::Not
+        | Op::Get(_)
+        | Op::Set(_)
+        | Op::Jump(_)
+        | Op::Jz(_)
+        | Op::Jnz(_)
+        | Op::Print => Look::Plain,
+        Op::Div | Op::Rem => Look::Division,
+        Op::Halt => Look::Halt,
+        Op::Read(_) | Op::Write(_) | Op::Xchg(_) | Op::AddTo(_) | Op::Cas(_) => Look::Variable,
+        Op::ReadAt(decl) | Op::WriteAt(decl) => Look::Member(decl),
+        Op::Enter(monitor) => Look::Enter(monitor),
+        Op::Exit(monitor) => Look::Exit(monitor),
     }
 }
 
@@ -88,7 +132,7 @@ impl Thread {
             code,
             pc: 0,
             stack: Vec::new(alloc),
-            locals: [0; 16],
+            locals: [0; LOCAL_COUNT],
             made: 0,
             fate: Fate::Running,
         }
@@ -114,59 +158,34 @@ impl Thread {
         self.locals.get(local as usize).copied().unwrap_or(0)
     }
 
-    fn set_local(&mut self, local: u8, word: u64) {
+    /// Stores the topmost word in a local.
+    fn set_local(&mut self, local: u8) {
+        let word = self.pop();
         if let Some(place) = self.locals.get_mut(local as usize) {
             *place = word;
         }
     }
 
-    /// Makes an instruction of the thread's own that leaves words on the stack.
-    fn leave(&mut self, op: Op) -> Result<(), AllocError> {
-        let word = match op {
-            Op::Push(word) => word,
-            Op::Get(local) => self.local(local),
-            Op::Dup => self.peek(0),
-            Op::Over => self.peek(1),
-            Op::Not => !self.pop(),
-            Op::Swap => {
-                let (right, left) = (self.pop(), self.pop());
-                self.stack.push(right)?;
-                left
-            }
-            _ => {
-                let (right, left) = (self.pop(), self.pop());
-                of_two(op, left, right).unwrap_or(0)
-            }
-        };
+    /// Takes so many words off the stack, and puts this one on it.
+    fn leave(&mut self, taken: u32, word: u64) -> Result<(), AllocError> {
+        for _ in 0..taken {
+            self.pop();
+        }
         self.stack.push(word)?;
         Ok(())
     }
 
-    /// Makes an instruction of the thread's own: neither shared nor `print` nor `halt`.
-    fn compute(&mut self, op: Op) -> Result<(), AllocError> {
-        self.pc = self.pc.saturating_add(1);
-        match op {
-            Op::Drop => {
-                self.pop();
-            }
-            Op::Set(local) => {
-                let word = self.pop();
-                self.set_local(local, word);
-            }
-            Op::Jump(target) => self.pc = target as usize,
-            Op::Jz(target) => {
-                if self.pop() == 0 {
-                    self.pc = target as usize;
-                }
-            }
-            Op::Jnz(target) => {
-                if self.pop() != 0 {
-                    self.pc = target as usize;
-                }
-            }
-            _ => self.leave(op)?,
+    fn swap(&mut self) -> Result<(), AllocError> {
+        let (right, left) = (self.pop(), self.pop());
+        self.leave(0, right)?;
+        self.leave(0, left)
+    }
+
+    /// Takes a word off the stack, and goes to the position where it is 0, or where it is not.
+    fn branch(&mut self, target: u32, wants_zero: bool) {
+        if (self.pop() == 0) == wants_zero {
+            self.pc = target as usize;
         }
-        Ok(())
     }
 }
 
@@ -211,85 +230,103 @@ impl Shared {
     /// The trap of an instruction of the thread, if it can't be done.
     fn trap(&self, number: usize, thread: &Thread, op: Op) -> Option<&'static str> {
         let holds = |monitor| self.holder(monitor) == Some(number);
-        match op {
-            Op::Div | Op::Rem if thread.peek(0) == 0 => Some("div-zero"),
-            Op::ReadAt(decl) | Op::WriteAt(decl) if thread.peek(0) >= self.size(decl) => {
-                Some("range")
-            }
-            Op::Enter(monitor) if holds(monitor) => Some("again"),
-            Op::Exit(monitor) if !holds(monitor) => Some("not-held"),
-            Op::Halt if self.holds_any(number) => Some("held-at-halt"),
-            _ => None,
-        }
+        let (word, is_wrong) = match look_of(op) {
+            Look::Plain | Look::Variable => return None,
+            Look::Division => ("div-zero", thread.peek(0) == 0),
+            Look::Halt => ("held-at-halt", self.holds_any(number)),
+            Look::Member(decl) => ("range", thread.peek(0) >= self.size(decl)),
+            Look::Enter(monitor) => ("again", holds(monitor)),
+            Look::Exit(monitor) => ("not-held", !holds(monitor)),
+        };
+        if is_wrong { Some(word) } else { None }
+    }
+
+    fn print(&mut self, number: usize, word: u64) -> Result<(), AllocError> {
+        writeln!(self.transcript, "{number} {word}")?;
+        Ok(())
+    }
+
+    /// Stores a word in a variable, takes so many words off the stack, and leaves the old value.
+    fn update(
+        &mut self,
+        thread: &mut Thread,
+        decl: u32,
+        taken: u32,
+        word: u64,
+    ) -> Result<(), AllocError> {
+        let old = self.cell(decl, 0);
+        self.set_cell(decl, 0, word);
+        thread.leave(taken, old)
+    }
+
+    fn compare_and_swap(&mut self, thread: &mut Thread, decl: u32) -> Result<(), AllocError> {
+        let (expected, new, old) = (thread.peek(1), thread.peek(0), self.cell(decl, 0));
+        self.update(thread, decl, 2, if old == expected { new } else { old })
     }
 
     /// Makes an instruction of the thread that is no `halt` and has no trap.
     fn make(&mut self, number: usize, thread: &mut Thread, op: Op) -> Result<(), AllocError> {
+        let (left, right) = (thread.peek(1), thread.peek(0));
+        thread.pc = thread.pc.saturating_add(1);
         match op {
-            Op::Print => {
-                let word = thread.pop();
-                writeln!(self.transcript, "{number} {word}")?;
+            Op::Push(word) => thread.leave(0, word)?,
+            Op::Dup => thread.leave(0, right)?,
+            Op::Drop => {
+                thread.pop();
             }
-            Op::Read(decl) => thread.stack.push(self.cell(decl, 0))?,
+            Op::Swap => thread.swap()?,
+            Op::Over => thread.leave(0, left)?,
+            Op::Add => thread.leave(2, left.wrapping_add(right))?,
+            Op::Sub => thread.leave(2, left.wrapping_sub(right))?,
+            Op::Mul => thread.leave(2, left.wrapping_mul(right))?,
+            Op::Div => thread.leave(2, left.checked_div(right).unwrap_or(0))?,
+            Op::Rem => thread.leave(2, left.checked_rem(right).unwrap_or(0))?,
+            Op::And => thread.leave(2, left & right)?,
+            Op::Or => thread.leave(2, left | right)?,
+            Op::Xor => thread.leave(2, left ^ right)?,
+            Op::Shl => thread.leave(2, doubled(left, right % 64))?,
+            Op::Shr => thread.leave(2, halved(left, right % 64))?,
+            Op::Eq => thread.leave(2, u64::from(left == right))?,
+            Op::Lt => thread.leave(2, u64::from(left < right))?,
+            Op::Not => thread.leave(1, !right)?,
+            Op::Get(local) => thread.leave(0, thread.local(local))?,
+            Op::Set(local) => thread.set_local(local),
+            Op::Jump(target) => thread.pc = target as usize,
+            Op::Jz(target) => thread.branch(target, true),
+            Op::Jnz(target) => thread.branch(target, false),
+            Op::Print => self.print(number, thread.pop())?,
+            Op::Halt => {}
+            Op::Read(decl) => thread.leave(0, self.cell(decl, 0))?,
             Op::Write(decl) => self.set_cell(decl, 0, thread.pop()),
-            Op::ReadAt(decl) => {
-                let index = thread.pop();
-                thread.stack.push(self.cell(decl, index))?;
-            }
-            Op::WriteAt(decl) => {
-                let (index, word) = (thread.pop(), thread.pop());
-                self.set_cell(decl, index, word);
-            }
-            Op::Xchg(decl) => {
-                let word = thread.pop();
-                thread.stack.push(self.cell(decl, 0))?;
-                self.set_cell(decl, 0, word);
-            }
-            Op::AddTo(decl) => {
-                let (word, old) = (thread.pop(), self.cell(decl, 0));
-                thread.stack.push(old)?;
-                self.set_cell(decl, 0, old.wrapping_add(word));
-            }
-            Op::Cas(decl) => {
-                let (new, expected, old) = (thread.pop(), thread.pop(), self.cell(decl, 0));
-                thread.stack.push(old)?;
-                if old == expected {
-                    self.set_cell(decl, 0, new);
-                }
-            }
+            Op::ReadAt(decl) => thread.leave(1, self.cell(decl, right))?,
+            Op::WriteAt(decl) => self.set_cell(decl, thread.pop(), thread.pop()),
+            Op::Xchg(decl) => self.update(thread, decl, 1, right)?,
+            Op::AddTo(decl) => self.update(
+                thread,
+                decl,
+                1,
+                self.cell(decl, 0).wrapping_add(right),
+            )?,
+            Op::Cas(decl) => self.compare_and_swap(thread, decl)?,
             Op::Enter(monitor) => self.set_holder(monitor, Some(number)),
             Op::Exit(monitor) => self.set_holder(monitor, None),
-            _ => return thread.compute(op),
         }
-        thread.pc = thread.pc.saturating_add(1);
         Ok(())
     }
 }
 
-fn is_shared(op: Op) -> bool {
-    matches!(
-        op,
-        Op::Read(_)
-            | Op::Write(_)
-            | Op::ReadAt(_)
-            | Op::WriteAt(_)
-            | Op::Xchg(_)
-            | Op::AddTo(_)
-            | Op::Cas(_)
-            | Op::Enter(_)
-            | Op::Exit(_)
-    )
-}
-
 impl Machine {
-    /// The shared instruction at which the thread stands. One that traps is a local instruction.
-    fn stop(&self, number: usize) -> Option<Op> {
+    /// At which shared instruction the thread stands. One that traps is a local instruction.
+    fn stop(&self, number: usize) -> Option<Stop> {
         let thread = self.threads.get(number)?;
         let op = thread.next_op()?;
-        if is_shared(op) && self.shared.trap(number, thread, op).is_none() {
-            Some(op)
-        } else {
-            None
+        if self.shared.trap(number, thread, op).is_some() {
+            return None;
+        }
+        match look_of(op) {
+            Look::Plain | Look::Division | Look::Halt => None,
+            Look::Variable | Look::Member(_) | Look::Exit(_) => Some(Stop::Free),
+            Look::Enter(monitor) => Some(Stop::Enter(monitor)),
         }
     }
 
@@ -302,9 +339,17 @@ impl Machine {
 
     fn can_take_turn(&self, number: usize) -> bool {
         match self.stop(number) {
-            Some(Op::Enter(monitor)) => self.shared.holder(monitor).is_none(),
-            Some(_) => true,
+            Some(Stop::Enter(monitor)) => self.shared.holder(monitor).is_none(),
+            Some(Stop::Free) => true,
             None => false,
+        }
+    }
+
+    /// Why a thread can't take its turn, if it can't.
+    fn member_fault(&self, number: usize) -> MemberFault {
+        match self.threads.get(number) {
+            Some(_) => MemberFault::CannotGoOn,
+            None => MemberFault::NoThread,
         }
     }
 
@@ -387,7 +432,7 @@ fn machine_of(alloc: Global, program: &Checked, fuel: u32) -> Result<Machine, Al
     }
     let shared = Shared {
         rows: rows_of(alloc, program)?,
-        holders: [None; 64],
+        holders: [None; MONITOR_LIMIT],
         transcript: String::new(alloc),
     };
     Ok(Machine {
@@ -411,7 +456,8 @@ pub(crate) fn play(
     for (place, thread) in order.iter().enumerate() {
         let number = usize::from(*thread);
         if !machine.can_take_turn(number) {
-            return Ok(Played::Refused(u32::try_from(place).unwrap_or(u32::MAX)));
+            let place = u32::try_from(place).unwrap_or(u32::MAX);
+            return Ok(Played::Refused(place, machine.member_fault(number)));
         }
         machine.step(number)?;
         machine.run_to_stop(number)?;

@@ -9,6 +9,7 @@ use std::process::Abort;
 use std::sync::Wait;
 use std::test::Fail;
 use std::thread::Threads;
+use stride_base::limits::INPUT_LIMIT;
 use stride_isa::check;
 
 /// How many instructions a thread of `follow` may make.
@@ -20,7 +21,7 @@ pub(crate) fn played_plainly(
     text: &str,
     order: &str,
 ) -> Result<Played, Fail> {
-    assert!(rt; text.len() <= 1_000_000 && order.len() <= 1_000_000);
+    assert!(rt; text.len() <= INPUT_LIMIT && order.len() <= INPUT_LIMIT);
     let program = check(alloc, assemble(alloc, text.as_bytes())?)?;
     let order = read_order(alloc, order.as_bytes(), 1)?;
     Ok(play(alloc, &program, order.as_slice(), FUEL)?)
@@ -38,7 +39,7 @@ pub(crate) fn play_alike<R: Threads + Wait + Sync + Abort>(
     assert_eq!(rt; played, played_plainly(rt, alloc, text, order)?, "{input}");
     match played {
         Played::Report(_) => Ok(None),
-        Played::Refused(place) => Ok(Some(place)),
+        Played::Refused(place, _) => Ok(Some(place)),
     }
 }
 

@@ -4,6 +4,11 @@
 
 use assembler::AsmKind;
 use std::alloc::{AllocError, Global};
+use stride_isa::OperandClass;
+use stride_isa::limits::{
+    ARRAY_LIMIT, CELL_LIMIT, INSTRUCTION_LIMIT, LOCAL_COUNT, MONITOR_LIMIT, NAME_LIMIT,
+    THREAD_LIMIT,
+};
 
 /// Instructions that nothing follows.
 const PLAIN: [&[u8]; 19] = [
@@ -11,10 +16,8 @@ const PLAIN: [&[u8]; 19] = [
     b"xor", b"shl", b"shr", b"eq", b"lt", b"not", b"print", b"halt",
 ];
 
-/// Instructions that name a variable or an array.
-const ACCESSES: [&[u8]; 7] = [
-    b"read", b"write", b"readat", b"writeat", b"xchg", b"addto", b"cas",
-];
+/// Instructions that name a variable.
+const ACCESSES: [&[u8]; 5] = [b"read", b"write", b"xchg", b"addto", b"cas"];
 
 /// What a line says, by its first word and the number of its words.
 #[derive(Clone, Copy, PartialEq, Eq)]
@@ -31,8 +34,10 @@ enum Form {
     /// `get` or `set`.
     Local,
     Jump,
-    /// An access to a variable or an array.
+    /// An access to a variable.
     Access,
+    /// `readat` or `writeat`.
+    Member,
     /// `enter` or `exit`.
     Turn,
     Malformed,
@@ -62,15 +67,23 @@ impl<'a> Line<'a> {
         }
     }
 
-    fn declares(&self) -> bool {
-        matches!(self.form, Form::Var | Form::Array | Form::Monitor)
-    }
-
     fn is_instruction(&self) -> bool {
-        matches!(
-            self.form,
-            Form::Plain | Form::Push | Form::Local | Form::Jump | Form::Access | Form::Turn
-        )
+        match self.form {
+            Form::Plain
+            | Form::Push
+            | Form::Local
+            | Form::Jump
+            | Form::Access
+            | Form::Member
+            | Form::Turn => true,
+            Form::Blank
+            | Form::Var
+            | Form::Array
+            | Form::Monitor
+            | Form::Thread
+            | Form::Label
+            | Form::Malformed => false,
+        }
     }
 
     /// How many cells the line declares.
@@ -78,7 +91,18 @@ impl<'a> Line<'a> {
         match self.form {
             Form::Var => 1,
             Form::Array => number(self.word(2)).unwrap_or(0),
-            _ => 0,
+            Form::Blank
+            | Form::Monitor
+            | Form::Thread
+            | Form::Label
+            | Form::Plain
+            | Form::Push
+            | Form::Local
+            | Form::Jump
+            | Form::Access
+            | Form::Member
+            | Form::Turn
+            | Form::Malformed => 0,
         }
     }
 }
@@ -101,7 +125,7 @@ fn is_name(word: &[u8]) -> bool {
     let all = word
         .iter()
         .all(|byte| byte.is_ascii_alphanumeric() || *byte == b'_');
-    all && !first.is_ascii_digit() && word.len() <= 32
+    all && !first.is_ascii_digit() && word.len() <= NAME_LIMIT
 }
 
 /// The number of 64 bits that the word spells.
@@ -156,6 +180,8 @@ fn form_begun(word: &[u8]) -> Form {
         Form::Jump
     } else if is_one_of(&ACCESSES, word) {
         Form::Access
+    } else if is_one_of(&[b"readat", b"writeat"], word) {
+        Form::Member
     } else if is_one_of(&[b"enter", b"exit"], word) {
         Form::Turn
     } else if is_one_of(&PLAIN, word) {
@@ -179,7 +205,8 @@ fn has_form(form: Form, first: &[u8], rest: &[&[u8]]) -> bool {
     match form {
         Form::Var => has_name && count <= 2,
         Form::Array => has_name && 2 <= count && count <= 3,
-        Form::Monitor | Form::Jump | Form::Access | Form::Turn => has_name && count == 1,
+        Form::Monitor | Form::Jump | Form::Access | Form::Member | Form::Turn => has_name
+            && count == 1,
         Form::Push | Form::Local => count == 1,
         Form::Thread | Form::Plain => count == 0,
         Form::Label => count == 0 && is_label(first),
@@ -219,8 +246,15 @@ fn is_bad_line(before: &[Line<'_>], line: &Line<'_>) -> bool {
     match line.form {
         Form::Malformed => true,
         Form::Blank | Form::Thread => false,
-        _ if line.declares() => has_thread(before),
-        _ => !has_thread(before),
+        Form::Var | Form::Array | Form::Monitor => has_thread(before),
+        Form::Label
+        | Form::Plain
+        | Form::Push
+        | Form::Local
+        | Form::Jump
+        | Form::Access
+        | Form::Member
+        | Form::Turn => !has_thread(before),
     }
 }
 
@@ -230,11 +264,21 @@ fn is_bad_number(line: &Line<'_>) -> bool {
     match line.form {
         Form::Var => count > 2 && !is_number(line.word(2), 0, most),
         Form::Array => {
-            !is_number(line.word(2), 1, 256) || (count > 3 && !is_number(line.word(3), 0, most))
+            !is_number(line.word(2), 1, u64::from(ARRAY_LIMIT))
+                || (count > 3 && !is_number(line.word(3), 0, most))
         }
         Form::Push => !is_number(line.word(1), 0, most),
-        Form::Local => !is_number(line.word(1), 0, 15),
-        _ => false,
+        Form::Local => !is_number(line.word(1), 0, LOCAL_COUNT as u64 - 1),
+        Form::Blank
+        | Form::Monitor
+        | Form::Thread
+        | Form::Label
+        | Form::Plain
+        | Form::Jump
+        | Form::Access
+        | Form::Member
+        | Form::Turn
+        | Form::Malformed => false,
     }
 }
 
@@ -278,22 +322,55 @@ fn has_monitor(before: &[Line<'_>], name: &[u8]) -> bool {
         .any(|line| line.form == Form::Monitor && line.name() == name)
 }
 
-fn is_unknown(before: &[Line<'_>], line: &Line<'_>, after: &[Line<'_>]) -> bool {
-    let name = line.name();
-    match line.form {
-        Form::Jump => !stands_before(before, name) && !stands_after(after, name),
-        Form::Access => !has_cells(before, name),
-        Form::Turn => !has_monitor(before, name),
-        _ => false,
+/// What an instruction names that has to be there, if it names something.
+fn wanted_by(form: Form) -> Option<OperandClass> {
+    match form {
+        Form::Jump => Some(OperandClass::Label),
+        Form::Access => Some(OperandClass::Variable),
+        Form::Member => Some(OperandClass::Array),
+        Form::Turn => Some(OperandClass::Monitor),
+        Form::Blank
+        | Form::Var
+        | Form::Array
+        | Form::Monitor
+        | Form::Thread
+        | Form::Label
+        | Form::Plain
+        | Form::Push
+        | Form::Local
+        | Form::Malformed => None,
     }
+}
+
+/// What the line names that is not there.
+fn missing(before: &[Line<'_>], line: &Line<'_>, after: &[Line<'_>]) -> Option<OperandClass> {
+    let name = line.name();
+    let wanted = wanted_by(line.form)?;
+    let is_there = match wanted {
+        OperandClass::Label => stands_before(before, name) || stands_after(after, name),
+        OperandClass::Variable | OperandClass::Array => has_cells(before, name),
+        OperandClass::Monitor => has_monitor(before, name),
+        OperandClass::Nothing | OperandClass::Number | OperandClass::Local => true,
+    };
+    if is_there { None } else { Some(wanted) }
 }
 
 fn is_twice(before: &[Line<'_>], line: &Line<'_>) -> bool {
     let name = line.name();
     match line.form {
         Form::Label => stands_before(before, name),
-        _ if line.declares() => has_cells(before, name) || has_monitor(before, name),
-        _ => false,
+        Form::Var | Form::Array | Form::Monitor => has_cells(before, name)
+            || has_monitor(before, name),
+        Form::Blank
+        | Form::Thread
+        | Form::Plain
+        | Form::Push
+        | Form::Local
+        | Form::Jump
+        | Form::Access
+        | Form::Member
+        | Form::Turn
+        | Form::Malformed => false,
     }
 }
 
@@ -315,11 +392,19 @@ fn instruction_count(before: &[Line<'_>]) -> usize {
 
 fn is_too_many(before: &[Line<'_>], line: &Line<'_>) -> bool {
     match line.form {
-        Form::Var | Form::Array => cell_count(before).saturating_add(line.cells()) > 256,
-        Form::Monitor => count(before, Form::Monitor) >= 64,
-        Form::Thread => count(before, Form::Thread) >= 16,
-        _ if line.is_instruction() => instruction_count(before) >= 65_536,
-        _ => false,
+        Form::Var | Form::Array => {
+            cell_count(before).saturating_add(line.cells()) > u64::from(CELL_LIMIT)
+        }
+        Form::Monitor => count(before, Form::Monitor) >= MONITOR_LIMIT,
+        Form::Thread => count(before, Form::Thread) >= THREAD_LIMIT,
+        Form::Plain
+        | Form::Push
+        | Form::Local
+        | Form::Jump
+        | Form::Access
+        | Form::Member
+        | Form::Turn => instruction_count(before) >= INSTRUCTION_LIMIT as usize,
+        Form::Blank | Form::Label | Form::Malformed => false,
     }
 }
 
@@ -328,8 +413,8 @@ fn fault_of(before: &[Line<'_>], line: &Line<'_>, after: &[Line<'_>]) -> Option<
         Some(AsmKind::BadLine)
     } else if is_bad_number(line) {
         Some(AsmKind::BadNumber)
-    } else if is_unknown(before, line, after) {
-        Some(AsmKind::UnknownName)
+    } else if let Some(wanted) = missing(before, line, after) {
+        Some(AsmKind::UnknownName { wanted })
     } else if is_twice(before, line) {
         Some(AsmKind::Twice)
     } else if is_too_many(before, line) {

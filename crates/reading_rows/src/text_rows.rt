@@ -7,6 +7,7 @@ use std::fmt::Write;
 use std::process::Abort;
 use std::test::Fail;
 use stride_base::limits::INPUT_LIMIT;
+use stride_isa::OperandClass;
 
 /// The refusal of a text by `assemble`, or `None` where it is read.
 fn told(rt: &impl Abort, alloc: Global, text: &[u8]) -> Result<Option<(AsmKind, u32)>, Fail> {
@@ -174,6 +175,10 @@ fn changed_lines_are_judged_alike(rt: HostRuntime) -> Result<(), Fail> {
     Ok(())
 }
 
+fn unknown(wanted: OperandClass) -> AsmKind {
+    AsmKind::UnknownName { wanted }
+}
+
 #[test]
 fn changed_words_are_judged_alike(rt: HostRuntime) -> Result<(), Fail> {
     let alloc = rt.alloc();
@@ -187,7 +192,10 @@ fn changed_words_are_judged_alike(rt: HostRuntime) -> Result<(), Fail> {
     for kind in [
         AsmKind::BadLine,
         AsmKind::BadNumber,
-        AsmKind::UnknownName,
+        unknown(OperandClass::Label),
+        unknown(OperandClass::Variable),
+        unknown(OperandClass::Array),
+        unknown(OperandClass::Monitor),
         AsmKind::Twice,
         AsmKind::TooMany,
     ] {

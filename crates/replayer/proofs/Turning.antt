@@ -7,6 +7,7 @@ use Rattle.std.proofs.lemmas.Bool.Decides.{eqb_tells}
 use Rattle.std.proofs.lemmas.List.{get_or-map, get_or-set_same, get_or-set_other, length-set, length-map, map-set}
 use Rattle.stride_base.specs.Listed.{Listed}
 use Rattle.stride_isa.specs.Changes.{applied}
+use Rattle.stride_isa.specs.Limits.{monitor_limit}
 use Rattle.stride_isa.specs.Listing.{Listing, cell_count}
 use Rattle.sc_machine.specs.declared.stop.Stop.{Stop}
 use Rattle.sc_machine.specs.declared.stop.Stop.TheVariants.{Read, Write, Update, Enter, Exit, Ended}
@@ -75,14 +76,14 @@ holders_long t (Enter monitor) holders = length-set holders monitor (Some t)
 holders_long t (Exit monitor) holders = length-set holders monitor None
 holders_long t (Ended end) holders = refl
 
-holders_shown : (table : Table) (m : Machine) (t : ℕ) (stop : Stop) → IsTable table → Shows table m → NamesCell table.program.now stop → (monitor : ℕ) → monitor < 64 → slice_index_or (holders_in t stop table.holders) monitor None ≡ holders_after t stop m.holders monitor
+holders_shown : (table : Table) (m : Machine) (t : ℕ) (stop : Stop) → IsTable table → Shows table m → NamesCell table.program.now stop → (monitor : ℕ) → monitor < monitor_limit → slice_index_or (holders_in t stop table.holders) monitor None ≡ holders_after t stop m.holders monitor
 holders_shown table m t (Read cell) is shows named monitor lt = shows.holders monitor lt
 holders_shown table m t (Write cell value) is shows named monitor lt = shows.holders monitor lt
 holders_shown table m t (Update at change) is shows named monitor lt = shows.holders monitor lt
 holders_shown table m t (Enter at) is shows named monitor lt =
-    put_shown table.holders m.holders None at (Some t) 64 (omega (arith, is.monitors)) shows.holders named.1 monitor lt
+    put_shown table.holders m.holders None at (Some t) monitor_limit (omega (arith, is.monitors)) shows.holders named.1 monitor lt
 holders_shown table m t (Exit at) is shows named monitor lt =
-    put_shown table.holders m.holders None at None 64 (omega (arith, is.monitors)) shows.holders named.1 monitor lt
+    put_shown table.holders m.holders None at None monitor_limit (omega (arith, is.monitors)) shows.holders named.1 monitor lt
 holders_shown table m t (Ended end) is shows named monitor lt = shows.holders monitor lt
 
 may_shown : (table : Table) (m : Machine) (t : ℕ) (stop : Stop) → Shows table m → NamesCell table.program.now stop → may_in t stop table.holders ≡ may_pass t stop m.holders

@@ -3,6 +3,7 @@
 use Rattle.std.specs.Prelude.{◌≡◌, ℕ, ◌<◌, ◌≤◌, Bool, true, false, List, length, map, slice_index, slice_set, Option, Some, None}
 use Rattle.std.specs.List.{slice_index_or}
 use Rattle.stride_isa.specs.Changes.{applied}
+use Rattle.stride_isa.specs.Limits.{monitor_limit}
 use Rattle.stride_isa.specs.Listing.{cell_count}
 use Rattle.sc_machine.specs.declared.stop.Stop.{Stop}
 use Rattle.sc_machine.specs.declared.stop.Stop.TheVariants.{Read, Write, Update, Enter, Exit, Ended}
@@ -53,14 +54,14 @@ holders_in t (Ended end) holders = holders
 pub record IsTable (table : Table) : Type 0 where
   pub count : length table.players.items ≡ length table.program.now.threads
   pub room : cell_count table.program.now.decls ≤ length table.cells
-  pub monitors : length table.holders ≡ 64
+  pub monitors : length table.holders ≡ monitor_limit
   pub each : (t : ℕ) (d : Player) → t < length table.players.items → IsThreadOf table.program.now table.fuel t (slice_index_or table.players.items t d).thread
 
 -- the table shows this machine
 pub record Shows (table : Table) (m : Machine) : Type 0 where
   pub threads : m.threads ≡ map thread_of table.players.items
   pub cells : (cell : ℕ) → cell < cell_count table.program.now.decls → slice_index table.cells cell ≡ m.cells cell
-  pub holders : (monitor : ℕ) → monitor < 64 → slice_index_or table.holders monitor None ≡ m.holders monitor
+  pub holders : (monitor : ℕ) → monitor < monitor_limit → slice_index_or table.holders monitor None ≡ m.holders monitor
   pub transcript : table.transcript.items ≡ transcript_bytes m.transcript
 
 -- the table is one of the same program with the same fuel

@@ -1,5 +1,5 @@
 -- What the program answers to words and bytes: the exit status with its details, and the report.
-use Rattle.std.specs.Prelude.{◌≡◌, ℕ, List, [], length, take, drop, nat_lt, Option, Some, None, Result, Ok, Err, unwrap_or}
+use Rattle.std.specs.Prelude.{◌≡◌, ℕ, List, [], length, take, drop, slice_index, nat_lt, if◌then◌else◌, Option, Some, None, Result, Ok, Err, unwrap_or}
 use Rattle.std.specs.Bool.{MatchBool}
 use Rattle.stride_isa.specs.Faults.{Fault, IsVerdict}
 use Rattle.stride_isa.specs.Listing.{Listing}
@@ -11,17 +11,21 @@ use Rattle.log_format.specs.Bundles.{Bundled}
 use Rattle.log_format.specs.Reading.{reading, Refusal as FormatRefusal}
 use Rattle.log_format.specs.Spelling.{spelling}
 use Rattle.log_format.specs.declared.version.Version.TheVariants.{Two}
+use Rattle.stride_base.specs.declared.limits.TheConstants.{INPUT_LIMIT}
 use Rattle.assembler.specs.Canonical.{canonical}
+use Rattle.assembler.specs.CodeLines.{code_line}
 use Rattle.assembler.specs.Orders.{order_spelled}
 use Rattle.assembler.specs.Programs.{LineFault, spelled}
 use Rattle.assembler.specs.Splits.{split}
 use Rattle.stride_cli.specs.declared.words.Command.{Command}
 use Rattle.stride_cli.specs.declared.words.Command.TheVariants.{Check, Follow, Sim, Show, Upgrade}
+use Rattle.stride_cli.specs.declared.status.MemberFault.{MemberFault}
+use Rattle.stride_cli.specs.declared.status.MemberFault.TheVariants.{NoThread, CannotGoOn}
 use Rattle.stride_cli.specs.declared.status.Status.{Status}
 use Rattle.stride_cli.specs.declared.status.Status.TheVariants.{Done, Usage, TooLong, Program, Bundle, NotEnabled}
 use Rattle.stride_cli.specs.declared.status.ProgramFault.TheVariants.{Text, Code}
 use Rattle.stride_cli.specs.Reports.{follow_report, logs_section, show_report}
-use Rattle.stride_cli.specs.Settings.{fuel, patience, input_limit}
+use Rattle.stride_cli.specs.Settings.{fuel, patience}
 use Rattle.stride_cli.specs.Words.{command_named}
 
 -- how a command ends, and what it puts
@@ -33,22 +37,32 @@ pub record Answer : Type 0 where
 abbrev pub refused : Status → Answer
 refused status = record { status = status; report = [] }
 
--- a run is reported; a list that is no schedule is refused at the place of its first member that can take no turn
-abbrev pub played : Option Machine → Option ℕ → Answer
-played (Some m) place = record { status = Done; report = follow_report m }
-played None place = refused (NotEnabled (unwrap_or place 0))
+-- a command that is done, with its report
+abbrev pub done : List ℕ → Answer
+done report = record { status = Done; report = report }
+
+-- why a member of an order can take no turn, where the program has so many threads: it names none of them, or one that has
+-- ended or waits for a monitor
+abbrev pub member_fault : ℕ → ℕ → MemberFault
+member_fault threads member = if nat_lt member threads then CannotGoOn else NoThread
+
+-- the refusal of an order at the place of a member that can take no turn
+abbrev pub refused_member : Listing → List ℕ → ℕ → Answer
+refused_member p order place = refused (NotEnabled place (member_fault (length p.threads) (slice_index order place)))
+
+-- a run is reported; where there is none, the order is refused
+abbrev pub played : Option Machine → Answer → Answer
+played (Some m) refusal = done (follow_report m)
+played None refusal = refusal
 
 -- a refusal of a text or of an order, for its first fault
 abbrev pub refused_text : LineFault → Answer
 refused_text fault = refused (Program (Text fault.kind fault.line))
 
--- a refusal of a program, for its first fault
-abbrev pub refused_code : Fault → Answer
-refused_code fault = refused (Program (Code fault.kind fault.thread fault.instruction))
-
--- a command that is done, with its report
-abbrev pub done : List ℕ → Answer
-done report = record { status = Done; report = report }
+-- a refusal of the program that a text spells, for its first fault, with the line of the text on which it is
+abbrev pub refused_code : List ℕ → Fault → Answer
+refused_code text fault =
+    refused (Program (Code fault.kind (code_line text fault.thread fault.instruction) fault.thread fault.instruction))
 
 -- the bytes before the line `order`
 abbrev pub program_part : List ℕ → List ℕ
@@ -58,9 +72,9 @@ program_part bytes = take (split bytes).program_end bytes
 abbrev pub order_part : List ℕ → List ℕ
 order_part bytes = drop (split bytes).order_start bytes
 
--- what `follow` answers to an accepted program with an order
+-- what `follow` answers to an accepted program with an order: its run, or the refusal of the first member that can take no turn
 abbrev pub followed : Listing → List ℕ → Answer
-followed p order = played (replayed p fuel order) (refused_place p fuel order)
+followed p order = played (replayed p fuel order) (refused_member p order (unwrap_or (refused_place p fuel order) 0))
 
 -- how a program is recorded
 abbrev pub setting_of : Listing → Setting
@@ -69,7 +83,7 @@ setting_of p = record { program = p; fuel = fuel; patience = patience }
 -- a recording is reported; an order that names a thread which is not there is refused at the place of its first such member
 abbrev pub recorded : Option ℕ → Recording → Answer
 recorded None recording = done (logs_section recording.logs)
-recorded (Some place) recording = refused (NotEnabled place)
+recorded (Some place) recording = refused (NotEnabled place NoThread)
 
 -- what `sim` answers to an accepted program with an order
 abbrev pub simulated : Listing → List ℕ → Answer
@@ -84,15 +98,20 @@ with_order answer (Ok order) = answer order
 abbrev pub order_of : List ℕ → Result (List ℕ) LineFault
 order_of bytes = order_spelled (split bytes).order_line (order_part bytes)
 
--- the answer to a program, by the verdict on it: the refusal of its first fault, or what is answered to it where it is valid
-abbrev pub judged : Option Fault → Answer → Answer
-judged (Some fault) accepted = refused_code fault
-judged None accepted = accepted
+-- the answer to the program that a text spells, by the verdict on it: the refusal of its first fault, or what is answered to
+-- it where it is valid
+abbrev pub judged : List ℕ → Option Fault → Answer → Answer
+judged text (Some fault) accepted = refused_code text fault
+judged text None accepted = accepted
 
 -- the answer to a text that spells this program, or this first fault; the function gives what is answered to a valid program
-abbrev pub AnswersText : Result Listing LineFault → (Listing → Answer) → Answer → Type 0
-AnswersText (Err fault) accepted answer = answer ≡ refused_text fault
-AnswersText (Ok p) accepted answer = (verdict : Option Fault) × (IsVerdict p verdict × (answer ≡ judged verdict (accepted p)))
+abbrev pub AnswersSpelled : List ℕ → Result Listing LineFault → (Listing → Answer) → Answer → Type 0
+AnswersSpelled text (Err fault) accepted answer = answer ≡ refused_text fault
+AnswersSpelled text (Ok p) accepted answer = (verdict : Option Fault) × (IsVerdict p verdict × (answer ≡ judged text verdict (accepted p)))
+
+-- the answer to a text, by what it spells
+abbrev pub AnswersText : List ℕ → (Listing → Answer) → Answer → Type 0
+AnswersText text accepted answer = AnswersSpelled text (spelled text) accepted answer
 
 -- what `show` answers to what the bytes read as
 abbrev pub shown : Result Bundled FormatRefusal → Answer
@@ -106,16 +125,16 @@ upgraded (Err refusal) = refused (Bundle refusal.kind refusal.offset)
 
 -- the answer of a command to an input within the limit
 abbrev pub AnswersInput : Command → List ℕ → Answer → Type 0
-AnswersInput Check bytes answer = AnswersText (spelled bytes) (λ p. done (canonical p)) answer
-AnswersInput Follow bytes answer = AnswersText (spelled (program_part bytes)) (λ p. with_order (followed p) (order_of bytes)) answer
-AnswersInput Sim bytes answer = AnswersText (spelled (program_part bytes)) (λ p. with_order (simulated p) (order_of bytes)) answer
+AnswersInput Check bytes answer = AnswersText bytes (λ p. done (canonical p)) answer
+AnswersInput Follow bytes answer = AnswersText (program_part bytes) (λ p. with_order (followed p) (order_of bytes)) answer
+AnswersInput Sim bytes answer = AnswersText (program_part bytes) (λ p. with_order (simulated p) (order_of bytes)) answer
 AnswersInput Show bytes answer = answer ≡ shown (reading bytes)
 AnswersInput Upgrade bytes answer = answer ≡ upgraded (reading bytes)
 
 -- the answer of the command that the words name, if they name one, to an input of any length
 abbrev pub AnswersBy : Option Command → List ℕ → Answer → Type 0
 AnswersBy None bytes answer = answer ≡ refused Usage
-AnswersBy (Some command) bytes answer = MatchBool (nat_lt input_limit (length bytes)) (answer ≡ refused TooLong) (AnswersInput command bytes answer)
+AnswersBy (Some command) bytes answer = MatchBool (nat_lt INPUT_LIMIT (length bytes)) (answer ≡ refused TooLong) (AnswersInput command bytes answer)
 
 -- the answer to the words and the bytes of the input
 abbrev pub IsAnswer : List (List ℕ) → List ℕ → Answer → Type 0

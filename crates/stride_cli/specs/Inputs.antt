@@ -2,22 +2,22 @@
 use Rattle.std.specs.Prelude.{◌≡◌, ◌≤◌, ℕ, List, Result, Ok, Err, length}
 use Rattle.stride_isa.specs.Listing.{Listing}
 use Rattle.stride_isa.specs.Validity.{IsValid}
-use Rattle.assembler.specs.Orders.{order_limit}
-use Rattle.assembler.specs.Programs.{LineFault, spelled}
+use Rattle.stride_base.specs.declared.limits.TheConstants.{ORDER_LIMIT}
+use Rattle.assembler.specs.Programs.{spelled}
 use Rattle.stride_cli.specs.declared.refusal.Refusal.{Refusal}
 use Rattle.stride_cli.specs.declared.refusal.Refusal.TheVariants as refusals
 use Rattle.stride_cli.specs.Answers.{Answer, AnswersText, order_of, program_part, refused}
 use Rattle.stride_cli.specs.Refusals.{status_of}
 
--- the program is the one that is spelled, and valid; or the refusal is the answer, whatever is answered to a valid program
-abbrev pub Accepts : Result Listing LineFault → Result Listing Refusal → Type 0
-Accepts spelled (Ok p) = (spelled ≡ Ok p) × IsValid p
-Accepts spelled (Err refusals.NoMemory) = Unit {0}
-Accepts spelled (Err refusal) = (accepted : Listing → Answer) → AnswersText spelled accepted (refused (status_of refusal))
+-- the program is the one that the text spells, and valid; or the refusal is the answer, whatever is answered to a valid program
+abbrev pub Accepts : List ℕ → Result Listing Refusal → Type 0
+Accepts text (Ok p) = (spelled text ≡ Ok p) × IsValid p
+Accepts text (Err refusals.NoMemory) = Unit {0}
+Accepts text (Err refusal) = (accepted : Listing → Answer) → AnswersText text accepted (refused (status_of refusal))
 
 -- the input is this accepted program with this order
 pub record IsInput (bytes : List ℕ) (p : Listing) (order : List ℕ) : Type 0 where
   pub program : spelled (program_part bytes) ≡ Ok p
   pub valid : IsValid p
   pub ordered : order_of bytes ≡ Ok order
-  pub within : length order ≤ order_limit
+  pub within : length order ≤ ORDER_LIMIT

@@ -1,6 +1,8 @@
 -- How the refusals of the layers below are told. Only private clauses cite this module.
+use Rattle.std.specs.Prelude.{ℕ, List, length, slice_index}
 use Rattle.stride_isa.specs.declared.check_error.CheckError.{CheckError}
 use Rattle.stride_isa.specs.declared.check_error.CheckError.TheVariants as checks
+use Rattle.assembler.specs.CodeLines.{code_line}
 use Rattle.assembler.specs.declared.asm_error.AsmError.{AsmError}
 use Rattle.assembler.specs.declared.asm_error.AsmError.TheVariants as texts
 use Rattle.interleavings.specs.declared.driven.DriveError.{DriveError}
@@ -9,8 +11,11 @@ use Rattle.log_format.specs.declared.format_error.FormatError.{FormatError}
 use Rattle.log_format.specs.declared.format_error.FormatError.TheVariants as formats
 use Rattle.replayer.specs.declared.replay_error.ReplayError.{ReplayError}
 use Rattle.replayer.specs.declared.replay_error.ReplayError.TheVariants as replays
+use Rattle.stride_isa.specs.Listing.{Listing}
+use Rattle.stride_cli.specs.Answers.{member_fault}
 use Rattle.stride_cli.specs.declared.refusal.Refusal.{Refusal}
 use Rattle.stride_cli.specs.declared.refusal.Refusal.TheVariants.{Program, Bundle, NotEnabled, NoMemory}
+use Rattle.stride_cli.specs.declared.status.MemberFault.TheVariants.{NoThread}
 use Rattle.stride_cli.specs.declared.status.ProgramFault.TheVariants.{Text, Code}
 use Rattle.stride_cli.specs.declared.status.Status.{Status}
 use Rattle.stride_cli.specs.declared.status.Status.TheVariants as statuses
@@ -20,19 +25,19 @@ abbrev pub of_text : AsmError → Refusal
 of_text (texts.Bad kind line) = Program (Text kind line)
 of_text texts.NoMemory = NoMemory
 
--- a refused program
-abbrev pub of_check : CheckError → Refusal
-of_check (checks.Bad kind thread instruction) = Program (Code kind thread instruction)
-of_check checks.NoMemory = NoMemory
+-- a refused program, which this text spells
+abbrev pub of_check : List ℕ → CheckError → Refusal
+of_check text (checks.Bad kind thread instruction) = Program (Code kind (code_line text thread instruction) thread instruction)
+of_check text checks.NoMemory = NoMemory
 
--- a refused schedule
-abbrev pub of_replay : ReplayError → Refusal
-of_replay (replays.NotEnabled place) = NotEnabled place
-of_replay replays.NoMemory = NoMemory
+-- a refused schedule of the program; what the member names tells why it is refused
+abbrev pub of_replay : Listing → List ℕ → ReplayError → Refusal
+of_replay p order (replays.NotEnabled place) = NotEnabled place (member_fault (length p.threads) (slice_index order place))
+of_replay p order replays.NoMemory = NoMemory
 
 -- a refused order of atomic steps
 abbrev pub of_drive : DriveError → Refusal
-of_drive (drives.NoSuchThread place) = NotEnabled place
+of_drive (drives.NoSuchThread place) = NotEnabled place NoThread
 of_drive drives.NoMemory = NoMemory
 
 -- a refused bundle
@@ -44,5 +49,5 @@ of_format formats.NoMemory = NoMemory
 abbrev pub status_of : Refusal → Status
 status_of (Program fault) = statuses.Program fault
 status_of (Bundle kind offset) = statuses.Bundle kind offset
-status_of (NotEnabled place) = statuses.NotEnabled place
+status_of (NotEnabled place fault) = statuses.NotEnabled place fault
 status_of NoMemory = statuses.NoMemory

@@ -1,4 +1,4 @@
--- The settings of a run, and the limit of an input.
+-- The settings of a run.
 use Rattle.std.specs.Prelude.{ℕ}
 
 -- how many instructions each thread may make
@@ -8,7 +8,3 @@ fuel = 100000
 -- after how many odd looks in a row a thread gives up
 abbrev pub patience : ℕ
 patience = 100000
-
--- the most bytes of an input
-abbrev pub input_limit : ℕ
-input_limit = 268435456

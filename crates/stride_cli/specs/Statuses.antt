@@ -11,6 +11,6 @@ code_of ReadFault = 2
 code_of TooLong = 3
 code_of (Program fault) = 4
 code_of (Bundle kind offset) = 5
-code_of (NotEnabled place) = 8
+code_of (NotEnabled place fault) = 8
 code_of WriteFault = 9
 code_of NoMemory = 10

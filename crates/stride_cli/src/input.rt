@@ -1,24 +1,50 @@
 //! What commands read: a program, or a program with an order.
-ghost use Rattle.std.specs.Prelude.{◌≤◌, length, IfOk, IfErr};
-ghost use Rattle.assembler.specs.Programs.{spelled};
+ghost use Rattle.std.specs.Prelude.{◌≡◌, ◌≤◌, length, IfOk, IfErr};
 ghost use Rattle.stride_cli.specs.Gives.{Refuses};
 ghost use Rattle.stride_cli.specs.Inputs.{Accepts, IsInput};
-ghost use Rattle.stride_cli.specs.Settings.{input_limit};
+ghost use Rattle.stride_cli.specs.Refusals.{of_check};
 ghost use Rattle.stride_cli.specs.declared.words.Command.TheVariants.{Follow, Sim};
 
 use crate::refusal::Refusal;
-use assembler::{assemble, read_order, split_order};
+use crate::status::ProgramFault;
+use assembler::{assemble, line_of_code, read_order, split_order};
 use std::alloc::Global;
 use stride_base::List;
-use stride_isa::{Checked, check};
+use stride_base::limits::INPUT_LIMIT;
+use stride_isa::{CheckError, Checked, check};
+
+// The refusal of the program that the text spells, with the line on which its fault is.
+fn refused_by_check(text: &[u8], error: CheckError) -> Refusal
+    requires { length text.now ≤ INPUT_LIMIT }
+    ensures { result ≡ of_check text.now error }
+{
+    match error {
+        CheckError::Bad {
+            kind,
+            thread,
+            instruction,
+        } => Refusal::Program {
+            fault: ProgramFault::Code {
+                kind,
+                line: line_of_code(text, thread, instruction),
+                thread,
+                instruction,
+            },
+        },
+        CheckError::NoMemory => Refusal::NoMemory,
+    }
+}
 
 /// The checked program that the text spells.
 pub fn accept(alloc: Global, text: &[u8]) -> Result<Checked, Refusal>
-    requires { length text.now ≤ input_limit }
-    ensures { Accepts (spelled text.now) result }
+    requires { length text.now ≤ INPUT_LIMIT }
+    ensures { Accepts text.now result }
 {
     let program = assemble(alloc, text)?;
-    Ok(check(alloc, program)?)
+    match check(alloc, program) {
+        Ok(checked) => Ok(checked),
+        Err(error) => Err(refused_by_check(text, error)),
+    }
 }
 
 /// An accepted program with an order.
@@ -30,7 +56,7 @@ pub struct Input {
 
 /// The accepted program and the order of an input of `follow` or `sim`.
 pub fn read_input(alloc: Global, bytes: &[u8]) -> Result<Input, Refusal>
-    requires { length bytes.now ≤ input_limit }
+    requires { length bytes.now ≤ INPUT_LIMIT }
     ensures input { IfOk result (λ input. IsInput bytes.now input.program input.order.items) }
     ensures follow { IfErr result (Refuses Follow bytes.now) }
     ensures sim { IfErr result (Refuses Sim bytes.now) }

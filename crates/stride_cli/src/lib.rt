@@ -20,4 +20,4 @@ mod words;
 
 pub use laws::{an_answer, one_answer};
 pub use offline_call::offline;
-pub use status::{ProgramFault, Status};
+pub use status::{MemberFault, ProgramFault, Status};

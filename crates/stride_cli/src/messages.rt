@@ -1,31 +1,77 @@
 //! The words of messages: what is wrong, for the user who can mend it.
 
 use assembler::AsmKind;
-use stride_isa::CheckKind;
+use std::fmt;
+use stride_base::limits::ORDER_LIMIT;
+use stride_isa::limits::{CELL_LIMIT, INSTRUCTION_LIMIT, MONITOR_LIMIT, STACK_LIMIT, THREAD_LIMIT};
+use stride_isa::{CheckKind, OperandClass};
 
 /// What is wrong with a line of a text or of an order.
-pub fn words_of_text(kind: &AsmKind) -> &'static str {
-    match kind {
-        AsmKind::BadLine => "malformed or misplaced line",
-        AsmKind::BadNumber => "not a number of the range that is wanted here",
-        AsmKind::UnknownName => {
-            "names no variable, array, monitor or label of this thread, whichever is wanted here"
-        },
-        AsmKind::Twice => "name already in use",
-        AsmKind::TooMany => "goes beyond a limit",
+#[derive(Clone, Copy)]
+pub struct TextWords<'a>(pub &'a AsmKind);
+
+impl fmt::Display for TextWords<'_> {
+    fn fmt<W: fmt::Write>(&self, f: &mut fmt::Formatter<W>) -> fmt::Result {
+        match self.0 {
+            AsmKind::BadLine => write!(
+                f,
+                "malformed or misplaced line: declarations stand before the first `thread`, labels and instructions after it"
+            ),
+            AsmKind::BadNumber => write!(
+                f,
+                "a word is not a number, or not one of the range that is wanted here"
+            ),
+            AsmKind::UnknownName { wanted } => write!(f, "names no {}", thing_of(*wanted)),
+            AsmKind::Twice => write!(
+                f,
+                "the name is already in use: an earlier line declares it, or is the same label of this thread"
+            ),
+            AsmKind::TooMany => write!(
+                f,
+                "goes beyond a limit: {THREAD_LIMIT} threads, {CELL_LIMIT} cells, {MONITOR_LIMIT} monitors, {INSTRUCTION_LIMIT} instructions, {ORDER_LIMIT} members of an order"
+            ),
+        }
+    }
+}
+
+// What an operand of this class has to name.
+fn thing_of(wanted: OperandClass) -> &'static str {
+    match wanted {
+        OperandClass::Label => "label of this thread",
+        OperandClass::Variable => "variable that is declared",
+        OperandClass::Array => "array that is declared",
+        OperandClass::Monitor => "monitor that is declared",
+        OperandClass::Nothing | OperandClass::Number | OperandClass::Local => {
+            "thing that is there"
+        }
     }
 }
 
 /// What is wrong with an instruction.
-pub fn words_of_check(kind: &CheckKind) -> &'static str {
-    match kind {
-        CheckKind::Underflow => "reached with too few words on the stack",
-        CheckKind::Overflow => "puts more than 64 words on the stack",
-        CheckKind::TwoDepths => "reached with two stack depths",
-        CheckKind::RunsOff => "the thread runs off the end of its code",
-        CheckKind::BadTarget => "jumps outside the thread's code",
-        CheckKind::BadName => {
-            "names an array where a variable is wanted, or a variable where an array is wanted"
-        },
+#[derive(Clone, Copy)]
+pub struct CheckWords<'a>(pub &'a CheckKind);
+
+impl fmt::Display for CheckWords<'_> {
+    fn fmt<W: fmt::Write>(&self, f: &mut fmt::Formatter<W>) -> fmt::Result {
+        match self.0 {
+            CheckKind::Underflow => write!(f, "reached with too few words on the stack"),
+            CheckKind::Overflow => write!(f, "puts more than {STACK_LIMIT} words on the stack"),
+            CheckKind::TwoDepths => write!(
+                f,
+                "reached in two ways, with different numbers of words on the stack"
+            ),
+            CheckKind::RunsOff => write!(
+                f,
+                "the thread runs off the end of its code, which must end with `halt` or `jump`"
+            ),
+            CheckKind::BadTarget => write!(
+                f,
+                "jumps outside the thread's code: no instruction follows the label"
+            ),
+            CheckKind::BadName => write!(
+                f,
+                "names an array where a variable is wanted, or a variable where an array is wanted"
+            ),
+        }
     }
 }

@@ -1,13 +1,11 @@
 //! Why a command that has read its input made no report.
 ghost use Rattle.std.specs.Prelude.{◌≡◌};
 
-use crate::status::{ProgramFault, Status};
+use crate::status::{MemberFault, ProgramFault, Status};
 use assembler::AsmError;
 use interleavings::DriveError;
 use log_format::{FormatError, FormatKind};
-use replayer::ReplayError;
 use stride_base::NoMemory;
-use stride_isa::CheckError;
 
 /// Why a command that has read its input made no report.
 #[derive(Debug, Drop)]
@@ -16,8 +14,8 @@ pub enum Refusal {
     Program { fault: ProgramFault },
     /// The bytes are no bundle: what is wrong, at this offset.
     Bundle { kind: FormatKind, offset: u64 },
-    /// The member of the order at this place can take no turn, or names no thread.
-    NotEnabled { place: u32 },
+    /// The member of the order at this place can take no turn.
+    NotEnabled { place: u32, fault: MemberFault },
     /// Memory ran out.
     NoMemory,
 }
@@ -32,7 +30,7 @@ impl Refusal {
         match self {
             Refusal::Program { fault } => Status::Program { fault },
             Refusal::Bundle { kind, offset } => Status::Bundle { kind, offset },
-            Refusal::NotEnabled { place } => Status::NotEnabled { place },
+            Refusal::NotEnabled { place, fault } => Status::NotEnabled { place, fault },
             Refusal::NoMemory => Status::NoMemory,
         }
     }
@@ -54,44 +52,6 @@ impl From<AsmError> for Refusal {
     }
 }
 
-impl From<CheckError> for Refusal {
-    ghost use Rattle.std.specs.Prelude.{◌≡◌};
-    ghost use Rattle.stride_cli.specs.Refusals.{of_check};
-
-    ghost from_gives = { λ error refusal. refusal ≡ of_check error };
-
-    fn from(error: CheckError) -> Refusal {
-        match error {
-            CheckError::Bad {
-                kind,
-                thread,
-                instruction,
-            } => Refusal::Program {
-                fault: ProgramFault::Code {
-                    kind,
-                    thread,
-                    instruction,
-                },
-            },
-            CheckError::NoMemory => Refusal::NoMemory,
-        }
-    }
-}
-
-impl From<ReplayError> for Refusal {
-    ghost use Rattle.std.specs.Prelude.{◌≡◌};
-    ghost use Rattle.stride_cli.specs.Refusals.{of_replay};
-
-    ghost from_gives = { λ error refusal. refusal ≡ of_replay error };
-
-    fn from(error: ReplayError) -> Refusal {
-        match error {
-            ReplayError::NotEnabled { place } => Refusal::NotEnabled { place },
-            ReplayError::NoMemory => Refusal::NoMemory,
-        }
-    }
-}
-
 impl From<DriveError> for Refusal {
     ghost use Rattle.std.specs.Prelude.{◌≡◌};
     ghost use Rattle.stride_cli.specs.Refusals.{of_drive};
@@ -100,7 +60,10 @@ impl From<DriveError> for Refusal {
 
     fn from(error: DriveError) -> Refusal {
         match error {
-            DriveError::NoSuchThread { place } => Refusal::NotEnabled { place },
+            DriveError::NoSuchThread { place } => Refusal::NotEnabled {
+                place,
+                fault: MemberFault::NoThread,
+            },
             DriveError::NoMemory => Refusal::NoMemory,
         }
     }

@@ -1,7 +1,7 @@
 //! How a command ends.
 ghost use Rattle.std.specs.Prelude.{◌≡◌};
 
-use crate::messages::{words_of_check, words_of_text};
+use crate::messages::{CheckWords, TextWords};
 use assembler::AsmKind;
 use log_format::FormatKind;
 use std::fmt;
@@ -13,18 +13,31 @@ use thiserror::Error;
 #[derive(Debug, Drop, Error)]
 pub enum ProgramFault {
     /// The text or the order is refused for its first fault, on this line of the input, counted from 1.
-    #[error("line {line}: {words}", words = words_of_text(.kind))]
+    #[error("line {line}: {words}", words = TextWords(.kind))]
     Text {
         kind: AsmKind,
         line: u32,
     },
-    /// The program is refused for its first fault: of this thread, at this position of its code, both counted from 0.
-    #[error("thread {thread}, instruction {instruction}, both counted from 0: {words}", words = words_of_check(.kind))]
+    /// The program is refused for its first fault: of this thread, at this position of its code, both counted from 0. The
+    /// instruction stands on this line of the input, counted from 1; where the thread has no code, its line `thread` does.
+    #[error("line {line}: thread {thread}, instruction {instruction}, both counted from 0: {words}", words = CheckWords(.kind))]
     Code {
         kind: CheckKind,
+        line: u32,
         thread: u32,
         instruction: u32,
     },
+}
+
+/// Why a member of an order can take no turn.
+#[derive(Clone, Copy, Debug, PartialEq, Eq, Error)]
+pub enum MemberFault {
+    /// It names no thread of the program.
+    #[error("names no thread of the program")]
+    NoThread,
+    /// Its thread has ended, or waits for a monitor that another thread holds.
+    #[error("names a thread that has ended, or that waits for a monitor which another thread holds")]
+    CannotGoOn,
 }
 
 /// How a command ends. `code` gives the exit status of the process.
@@ -36,14 +49,14 @@ pub enum Status {
     Usage,
     /// The input could not be read.
     ReadFault,
-    /// The input has more than 268,435,456 bytes.
+    /// The input has more bytes than an input may have.
     TooLong,
     /// The program or the order is refused.
     Program { fault: ProgramFault },
     /// The input is no bundle: what is wrong, at this offset.
     Bundle { kind: FormatKind, offset: u64 },
-    /// The thread that the order names at this place, counted from 0, is not there, or cannot take a turn.
-    NotEnabled { place: u32 },
+    /// The member of the order at this place, counted from 0, can take no turn.
+    NotEnabled { place: u32, fault: MemberFault },
     /// The report could not be written.
     WriteFault,
     /// Memory ran out.
@@ -64,7 +77,7 @@ impl Status {
             Status::TooLong => 3,
             Status::Program { fault: _ } => 4,
             Status::Bundle { kind: _, offset: _ } => 5,
-            Status::NotEnabled { place: _ } => 8,
+            Status::NotEnabled { place: _, fault: _ } => 8,
             Status::WriteFault => 9,
             Status::NoMemory => 10,
         }
@@ -75,18 +88,27 @@ impl fmt::Display for Status {
     fn fmt<W: fmt::Write>(&self, f: &mut fmt::Formatter<W>) -> fmt::Result {
         match self {
             Status::Done => write!(f, "done"),
-            Status::Usage => write!(f, "usage: stride check|follow|sim|show|upgrade < INPUT"),
-            Status::ReadFault => write!(f, "the input could not be read"),
-            Status::TooLong => write!(f, "the input has more than {INPUT_LIMIT} bytes"),
+            Status::Usage => write!(
+                f,
+                "usage: stride COMMAND < INPUT, with one COMMAND of check, follow, sim, show, upgrade"
+            ),
+            Status::ReadFault => write!(
+                f,
+                "the input could not be read: standard input is closed, a folder, or a device that failed"
+            ),
+            Status::TooLong => write!(
+                f,
+                "the input has more than {INPUT_LIMIT} bytes, the most that a command reads"
+            ),
             Status::Program { fault } => write!(f, "{fault}"),
             Status::Bundle { kind, offset } => write!(f, "offset {offset}: {kind}"),
-            Status::NotEnabled { place } => {
-                write!(
-                    f,
-                    "member {place} of the order, counted from 0, names no thread, or one that cannot take its turn"
-                )
+            Status::NotEnabled { place, fault } => {
+                write!(f, "member {place} of the order, counted from 0, {fault}")
             }
-            Status::WriteFault => write!(f, "the report could not be written"),
+            Status::WriteFault => write!(
+                f,
+                "the report could not be written whole: standard output is closed, full, or read by nobody"
+            ),
             Status::NoMemory => write!(f, "memory ran out"),
         }
     }

@@ -3,6 +3,7 @@
 use crate::rows::{Ending, Row, Run, plain_run, play_all};
 use assembler::AsmKind;
 use std::test::Fail;
+use stride_cli::MemberFault;
 use stride_isa::CheckKind;
 
 /// Two threads: one writes 3 into a variable, the other reads and prints it.
@@ -65,9 +66,24 @@ fn reports_are_put(rt: HostRuntime) -> Result<(), Fail> {
 #[test]
 fn the_first_refusal_is_told(rt: HostRuntime) -> Result<(), Fail> {
     let rows = [
-        row(&["follow"], PUBLISH, b"order\n0 0\n", Ending::NotEnabled(1)),
-        row(&["follow"], PUBLISH, b"order\n2\n", Ending::NotEnabled(0)),
-        row(&["sim"], PUBLISH, b"order\n0 7\n", Ending::NotEnabled(1)),
+        row(
+            &["follow"],
+            PUBLISH,
+            b"order\n0 0\n",
+            Ending::NotEnabled(1, MemberFault::CannotGoOn),
+        ),
+        row(
+            &["follow"],
+            PUBLISH,
+            b"order\n2\n",
+            Ending::NotEnabled(0, MemberFault::NoThread),
+        ),
+        row(
+            &["sim"],
+            PUBLISH,
+            b"order\n0 7\n",
+            Ending::NotEnabled(1, MemberFault::NoThread),
+        ),
         // The order's lines are counted with those of the text, of which there are nine, and a word of the order is refused before
         // any member of it.
         row(
@@ -80,13 +96,13 @@ fn the_first_refusal_is_told(rt: HostRuntime) -> Result<(), Fail> {
             &["sim"],
             b"thread\nadd\nhalt\n",
             b"order\n7 x\n",
-            Ending::Code(CheckKind::Underflow, 0, 0),
+            Ending::Code(CheckKind::Underflow, 2, 0, 0),
         ),
         row(
             &["check"],
             b"array a 2\nthread\nhalt\nthread\npush 1\naddto a\nhalt\n",
             b"",
-            Ending::Code(CheckKind::BadName, 1, 1),
+            Ending::Code(CheckKind::BadName, 6, 1, 1),
         ),
         row(
             &["check"],

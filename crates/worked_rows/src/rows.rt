@@ -11,7 +11,7 @@ use std::sync::ledger::{Blank, Ledger};
 use std::test::Fail;
 use std::thread::Threads;
 use stride_base::{MemSink, MemSource, Steps};
-use stride_cli::{ProgramFault, Status, offline};
+use stride_cli::{MemberFault, ProgramFault, Status, offline};
 use stride_isa::CheckKind;
 
 /// How a command ends, with the details that are told.
@@ -23,12 +23,12 @@ pub(crate) enum Ending {
     TooLong,
     /// A text or an order, refused on this line.
     Text(AsmKind, u32),
-    /// A program, refused at this thread and instruction.
-    Code(CheckKind, u32, u32),
+    /// A program, refused on this line, at this thread and instruction.
+    Code(CheckKind, u32, u32, u32),
     /// A bundle, refused at this offset.
     Bundle(FormatKind, u64),
     /// An order, refused at this place.
-    NotEnabled(u32),
+    NotEnabled(u32, MemberFault),
     WriteFault,
     NoMemory,
 }
@@ -46,12 +46,13 @@ impl Ending {
             Status::Program {
                 fault: ProgramFault::Code {
                     kind,
+                    line,
                     thread,
                     instruction,
                 },
-            } => Ending::Code(*kind, *thread, *instruction),
+            } => Ending::Code(*kind, *line, *thread, *instruction),
             Status::Bundle { kind, offset } => Ending::Bundle(*kind, *offset),
-            Status::NotEnabled { place } => Ending::NotEnabled(*place),
+            Status::NotEnabled { place, fault } => Ending::NotEnabled(*place, *fault),
             Status::WriteFault => Ending::WriteFault,
             Status::NoMemory => Ending::NoMemory,
         }
@@ -64,9 +65,9 @@ impl Ending {
             Ending::Usage => 1,
             Ending::ReadFault => 2,
             Ending::TooLong => 3,
-            Ending::Text(_, _) | Ending::Code(_, _, _) => 4,
+            Ending::Text(_, _) | Ending::Code(_, _, _, _) => 4,
             Ending::Bundle(_, _) => 5,
-            Ending::NotEnabled(_) => 8,
+            Ending::NotEnabled(_, _) => 8,
             Ending::WriteFault => 9,
             Ending::NoMemory => 10,
         }

@@ -1,7 +1,6 @@
 //! `check`: a program in its canonical text.
 ghost use Rattle.std.specs.Prelude.{◌≤◌, length};
 ghost use Rattle.stride_cli.specs.Gives.{Gives};
-ghost use Rattle.stride_cli.specs.Settings.{input_limit};
 ghost use Rattle.stride_cli.specs.declared.words.Command.TheVariants.{Check};
 
 use crate::input::accept;
@@ -9,10 +8,11 @@ use crate::refusal::Refusal;
 use assembler::print_program;
 use std::alloc::Global;
 use stride_base::List;
+use stride_base::limits::INPUT_LIMIT;
 
 /// The canonical text of the program that the bytes spell.
 pub fn check_text(alloc: Global, bytes: &[u8]) -> Result<List<u8>, Refusal>
-    requires { length bytes.now ≤ input_limit }
+    requires { length bytes.now ≤ INPUT_LIMIT }
     ensures { Gives result Check bytes.now }
 {
     let program = accept(alloc, bytes)?;

@@ -1,7 +1,6 @@
 //! The commands: one file a command, and the arm that calls it.
 ghost use Rattle.std.specs.Prelude.{◌≤◌, length};
 ghost use Rattle.stride_cli.specs.Gives.{Gives};
-ghost use Rattle.stride_cli.specs.Settings.{input_limit};
 
 mod check;
 mod follow;
@@ -17,11 +16,12 @@ use show::show_bundle;
 use sim::simulate;
 use std::alloc::Global;
 use stride_base::List;
+use stride_base::limits::INPUT_LIMIT;
 use upgrade::upgrade_bundle;
 
 /// The report of a command on an input that was read.
 pub fn report_of(alloc: Global, command: Command, bytes: &[u8]) -> Result<List<u8>, Refusal>
-    requires { length bytes.now ≤ input_limit }
+    requires { length bytes.now ≤ INPUT_LIMIT }
     ensures { Gives result command bytes.now }
 {
     match command {

@@ -1,17 +1,17 @@
 //! `upgrade`: a bundle in version 2.
 ghost use Rattle.std.specs.Prelude.{◌≤◌, length};
 ghost use Rattle.stride_cli.specs.Gives.{Gives};
-ghost use Rattle.stride_cli.specs.Settings.{input_limit};
 ghost use Rattle.stride_cli.specs.declared.words.Command.TheVariants.{Upgrade};
 
 use crate::refusal::Refusal;
 use log_format::{decode, encode};
 use std::alloc::Global;
 use stride_base::List;
+use stride_base::limits::INPUT_LIMIT;
 
 /// The spelling in version 2 of the bundle that the bytes spell. Its text is not assembled.
 pub fn upgrade_bundle(alloc: Global, bytes: &[u8]) -> Result<List<u8>, Refusal>
-    requires { length bytes.now ≤ input_limit }
+    requires { length bytes.now ≤ INPUT_LIMIT }
     ensures { Gives result Upgrade bytes.now }
 {
     let bundle = decode(alloc, bytes)?;

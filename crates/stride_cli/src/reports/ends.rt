@@ -5,6 +5,7 @@ ghost use Rattle.stride_cli.specs.Reports.{end_words, ends_section, trap_word};
 use crate::reports::line::Line;
 use sc_machine::{End, Trap};
 use stride_base::{List, NoMemory};
+use stride_isa::limits::THREAD_LIMIT;
 
 fn trap_text(trap: Trap) -> &'static [u8]
     ensures word { result.now ≡ trap_word trap }
@@ -53,7 +54,7 @@ fn put_end_line(report: &mut List<u8>, thread: u32, end: End) -> Result<(), NoMe
 
 /// Appends the section of the threads' ends.
 pub fn put_ends(report: &mut List<u8>, ends: &[End]) -> Result<(), NoMemory>
-    requires { length ends.now ≤ 16 }
+    requires { length ends.now ≤ THREAD_LIMIT }
     ensures { OnOk result (report.new.items ≡ report.old.items ++ ends_section ends.now) }
 {
     report.push_all(b"ends\n")?;

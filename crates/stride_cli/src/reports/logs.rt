@@ -5,6 +5,7 @@ ghost use Rattle.stride_cli.specs.Reports.{entry_words, log_lines, logs_section}
 use crate::reports::line::Line;
 use interleavings::LogEntry;
 use stride_base::{List, NoMemory};
+use stride_isa::limits::THREAD_LIMIT;
 
 /// Puts the words for an entry before what is written.
 fn put_entry(line: &mut Line, entry: LogEntry)
@@ -57,7 +58,7 @@ fn put_log(report: &mut List<u8>, thread: u32, log: &[LogEntry]) -> Result<(), N
 
 /// Appends the section of the threads' logs.
 pub fn put_logs(report: &mut List<u8>, logs: &[List<LogEntry>]) -> Result<(), NoMemory>
-    requires { length logs.now ≤ 16 }
+    requires { length logs.now ≤ THREAD_LIMIT }
     ensures { OnOk result (report.new.items ≡ report.old.items ++ logs_section (map (λ log. log.items) logs.now)) }
 {
     report.push_all(b"logs\n")?;

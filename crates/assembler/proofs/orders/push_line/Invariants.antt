@@ -1,6 +1,6 @@
 use Rattle.std.proofs.Common.{◌≡◌, ◌≤◌, length}
 use Rattle.assembler.specs.Words.{plain_words, words_of}
-use Rattle.assembler.specs.Orders.{order_limit}
+use Rattle.stride_base.specs.declared.limits.TheConstants.{ORDER_LIMIT}
 use Rattle.assembler.specs.OrderReading.{line_words, with_words}
 use Rattle.assembler.proofs.orders.push_line.Given as goal
 
@@ -8,7 +8,7 @@ use Rattle.assembler.proofs.orders.push_line.Given as goal
 abbrev pub invariant-loop-word : goal.invariant-loop-word
 invariant-loop-word l = record {
   reading : with_words l.order.items (line_words l.number (plain_words l.rest)) ≡ with_words l.fn.order.items (line_words l.number (words_of l.line));
-  within : length l.order.items ≤ order_limit;
+  within : length l.order.items ≤ ORDER_LIMIT;
 }
 
 abbrev pub decreases-loop-word : goal.decreases-loop-word
