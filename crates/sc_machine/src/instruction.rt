@@ -427,6 +427,7 @@ macro_rules! finishings {
     };
 }
 
+#[inline(never)]
 fn any_held(held: &[bool]) -> bool
     ensures { result ≡ list_any (λ flag. flag) held.now }
 {
@@ -441,6 +442,7 @@ fn trapped(trap: Trap, pc: u32) -> End
 }
 
 // The end that a `halt` gives.
+#[inline(always)]
 fn end_of_halt(held: &[bool], pc: u32) -> End
     ensures { result ≡ halt_end held.now pc }
 {

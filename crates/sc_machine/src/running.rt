@@ -1,10 +1,14 @@
 //! The loop that runs a thread up to where it stands.
-ghost use Rattle.std.specs.Prelude.{◌≡◌, ◌+◌, ◌-◌, ◌*◌, ◌≤◌, None, length};
+ghost use Rattle.std.specs.Prelude.{◌≡◌, ◌+◌, ◌-◌, ◌*◌, ◌<◌, ◌≤◌, None, length};
+ghost use Rattle.stride_isa.specs.Listing.{code_of, op_at};
+ghost use Rattle.stride_isa.specs.Validity.{IsFine, Reaches};
+ghost use Rattle.sc_machine.specs.Operands.{operands};
+ghost use Rattle.sc_machine.specs.ThreadStep.{done_held, done_stack};
 ghost use Rattle.sc_machine.specs.Running.{RanOn, going, thread_with};
 ghost use Rattle.sc_machine.specs.ThreadRunInside.{IsRun};
 
 use crate::end::End;
-use crate::instruction::{Next, execute};
+use crate::instruction::{Next, execute, finish};
 use crate::limits::LINE_LIMIT;
 use crate::operands::Top;
 use crate::task::Task;
@@ -17,6 +21,33 @@ pub struct Cursor {
     pub pc: u32,
     pub made: u32,
     pub top: Top,
+}
+
+/// Completes the shared instruction at this place, which is given the word that it reads, or 0, and tells the next place.
+#[inline(always)]
+pub fn completed(
+    task: Task<'_>,
+    from: Cursor,
+    word: u64,
+    words: &mut [u64; STACK_LIMIT],
+    held: &mut [bool; MONITOR_LIMIT],
+) -> Cursor
+    requires inside { from.pc < length (code_of task.program.now task.thread) }
+    requires reaches { Reaches task.program.now task.thread from.pc from.top.depth }
+    requires made { from.made ≤ task.fuel }
+    ensures pc { result.pc ≡ from.pc + 1 }
+    ensures made { result.made ≡ from.made + 1 }
+    ensures stack { operands words.new result.top.depth
+        ≡ done_stack (op_at task.entry.program.now task.entry.thread from.pc) (operands words.old from.top.depth) word }
+    ensures held { held.new ≡ done_held (op_at task.entry.program.now task.entry.thread from.pc) held.old }
+    ensures whole { length words.new ≡ length words.old }
+    ensures fine { IsFine task.entry.program.now task.entry.thread from.pc from.top.depth }
+{
+    let mut at = from;
+    finish(task.op(at.pc), task.program, word, words, &mut at.top, held);
+    at.pc += 1;
+    at.made += 1;
+    at
 }
 
 /// Makes local instructions from this place up to the next shared one or the end, and tells where, and the end.

@@ -74,8 +74,7 @@ impl<'p> StandingThread<'p> {
         requires { TakesWord (stop_here self.old) word }
         ensures { self.new ≡ standing_after (unwrap_or word 0) self.old }
     {
-        self.run.answer(word);
-        self.run.settle(&mut self.printed);
+        self.run.go_on(word, &mut self.printed);
     }
 
     /// Ends the thread at the shared instruction where it stands. The instruction is not counted.
