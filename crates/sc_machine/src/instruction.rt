@@ -219,7 +219,7 @@ macro_rules! halts {
 
 macro_rules! arms {
     (($parts:tt $op:ident) $([$variant:ident $operand:tt $name:literal $popped:literal $pushed:literal $class:ident $($how:tt)*])*) => {
-        match $op {
+        match *$op {
             $(with_operand!($variant $operand value) => $class!($variant $parts value $($how)*),)*
         }
     };
@@ -334,7 +334,7 @@ macro_rules! stop_told {
 
 macro_rules! stops {
     (($parts:tt $op:ident) $([$variant:ident $operand:tt $name:literal $popped:literal $pushed:literal $class:ident $($how:tt)*])*) => {
-        match $op {
+        match *$op {
             $(with_operand!($variant $operand value) => stop_told!($class $variant $parts value),)*
         }
     };
@@ -421,7 +421,7 @@ macro_rules! finished {
 
 macro_rules! finishings {
     (($parts:tt $op:ident) $([$variant:ident $operand:tt $name:literal $popped:literal $pushed:literal $class:ident $($how:tt)*])*) => {
-        match $op {
+        match *$op {
             $(with_operand!($variant $operand value) => finished!($class $variant $parts value),)*
         }
     };
@@ -489,7 +489,7 @@ fn monitor_index(program: &Checked, monitor: u32) -> usize
 /// Executes a local instruction, or tells of a shared one, at which the thread stands.
 #[inline(always)]
 pub fn execute(
-    op: Op,
+    op: &Op,
     program: &Checked,
     pc: u32,
     words: &mut [u64; STACK_LIMIT],
@@ -499,11 +499,11 @@ pub fn execute(
     out: &mut List<u8>,
 ) -> Next
     requires position { pc < INSTRUCTION_LIMIT }
-    requires enough { popped (kind op) ≤ length (operands words.old top.old.depth) }
-    requires room { depth_after op (length (operands words.old top.old.depth)) ≤ STACK_LIMIT }
-    requires names { Names program.now op }
+    requires enough { popped (kind op.now) ≤ length (operands words.old top.old.depth) }
+    requires room { depth_after op.now (length (operands words.old top.old.depth)) ≤ STACK_LIMIT }
+    requires names { Names program.now op.now }
     requires spare { LINE_LIMIT ≤ out.old.spare }
-    ensures made { Made (row program.now op pc (operands words.old top.old.depth) locals.old held.now) result (operands words.old top.old.depth) (operands words.new top.new.depth) locals.old locals.new out.old out.new }
+    ensures made { Made (row program.now op.now pc (operands words.old top.old.depth) locals.old held.now) result (operands words.old top.old.depth) (operands words.new top.new.depth) locals.old locals.new out.old out.new }
 {
     instructions!(arms!((program pc words top locals held out) op))
 }
@@ -511,15 +511,15 @@ pub fn execute(
 /// The shared instruction at which the thread stands. At an instruction that is local or traps it stands nowhere.
 #[inline(always)]
 pub fn stop_of(
-    op: Op,
+    op: &Op,
     program: &Checked,
     words: &[u64; STACK_LIMIT],
     top: Top,
     held: &[bool; MONITOR_LIMIT],
 ) -> Stop
-    requires enough { popped (kind op) ≤ length (operands words.now top.depth) }
-    requires names { Names program.now op }
-    ensures is { (pc : ℕ) → (locals : Words ℕ) → result ≡ stop_in (row program.now op pc (operands words.now top.depth) locals held.now) }
+    requires enough { popped (kind op.now) ≤ length (operands words.now top.depth) }
+    requires names { Names program.now op.now }
+    ensures is { (pc : ℕ) → (locals : Words ℕ) → result ≡ stop_in (row program.now op.now pc (operands words.now top.depth) locals held.now) }
     ensures names_cell { NamesCell program.now result }
 {
     instructions!(stops!((program words top held) op))
@@ -527,18 +527,18 @@ pub fn stop_of(
 
 /// Completes a shared instruction, which is given the word that it reads, or 0.
 pub fn finish(
-    op: Op,
+    op: &Op,
     program: &Checked,
     word: u64,
     words: &mut [u64; STACK_LIMIT],
     top: &mut Top,
     held: &mut [bool; MONITOR_LIMIT],
 )
-    requires enough { popped (kind op) ≤ length (operands words.old top.old.depth) }
-    requires room { depth_after op (length (operands words.old top.old.depth)) ≤ STACK_LIMIT }
-    requires names { Names program.now op }
-    ensures stack { operands words.new top.new.depth ≡ done_stack op (operands words.old top.old.depth) word }
-    ensures held { held.new ≡ done_held op held.old }
+    requires enough { popped (kind op.now) ≤ length (operands words.old top.old.depth) }
+    requires room { depth_after op.now (length (operands words.old top.old.depth)) ≤ STACK_LIMIT }
+    requires names { Names program.now op.now }
+    ensures stack { operands words.new top.new.depth ≡ done_stack op.now (operands words.old top.old.depth) word }
+    ensures held { held.new ≡ done_held op.now held.old }
     ensures whole { length words.new ≡ length words.old }
 {
     instructions!(finishings!((program word words top held) op));

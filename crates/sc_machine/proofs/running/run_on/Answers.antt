@@ -43,4 +43,4 @@ returns-in-Stands-clause-ran c =
 
 pub returns-in-Stands-clause-run : goal.returns-in-Stands-clause-run
 returns-in-Stands-clause-run c =
-    is_run_standing _ _ _ _ _ _ c.op-op.result _ _ _ _ c.args.held.now _ _ _ c.instructions.invariant.run (length-operands _ _ (omega arith)) (length-operands _ _ (omega arith)) c.in-Stands.ensures.made
+    is_run_standing _ _ _ _ _ _ c.op-op.result.now _ _ _ _ c.args.held.now _ _ _ c.instructions.invariant.run (length-operands _ _ (omega arith)) (length-operands _ _ (omega arith)) c.in-Stands.ensures.made
