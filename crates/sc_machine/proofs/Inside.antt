@@ -92,11 +92,12 @@ goes_on_at_shared None r shared = (refl, shared)
 goes_on_at_shared (Some end) r shared = absurd shared
 
 -- what always holds stays after a shared instruction is answered
-pub is_run_after_answer : (p : Listing) (thread fuel pc depth made : ℕ) (ended : Option End) (op : Op) (stack stack' locals : List ℕ) (held : List Bool) (old : Run) (word : Option ℕ) (depth' : ℕ) (later : Option End) → record { program = p; thread = thread; fuel = fuel; pc = pc; stack = stack; locals = locals; held = held; made = made; ended = ended } ≡ old → IsRun p thread fuel pc depth made ended → TakesWord (stop_at old) word → op ≡ op_at p thread pc → IsFine p thread pc depth → length stack ≡ depth → length stack' ≡ depth' → stack' ≡ done_stack op stack (unwrap_or word 0) → (ended ≡ None → later ≡ out_of_steps fuel (made + 1)) → IsRun p thread fuel (pc + 1) depth' (made + 1) later
-is_run_after_answer p thread fuel pc depth made ended op stack stack' locals held old word depth' later view run takes is fine deep deep' done end =
+pub is_run_after_answer : (p : Listing) (thread fuel pc pc' depth depth' made made' : ℕ) (ended later : Option End) (stack stack' locals : List ℕ) (held : List Bool) (old : Run) (word : Option ℕ) → record { program = p; thread = thread; fuel = fuel; pc = pc; stack = stack; locals = locals; held = held; made = made; ended = ended } ≡ old → IsRun p thread fuel pc depth made ended → TakesWord (stop_at old) word → IsFine p thread pc depth → length stack ≡ depth → length stack' ≡ depth' → pc' ≡ pc + 1 → made' ≡ made + 1 → stack' ≡ done_stack (op_at p thread pc) stack (unwrap_or word 0) → (ended ≡ None → later ≡ out_of_steps fuel made') → IsRun p thread fuel pc' depth' made' later
+is_run_after_answer p thread fuel pc pc' depth depth' made made' ended later stack stack' locals held old word view run takes fine deep deep' next counted done end =
     let run_before : Run = record { program = p; thread = thread; fuel = fuel; pc = pc; stack = stack; locals = locals; held = held; made = made; ended = ended } in
     let takes' : TakesWord (stop_at run_before) word = subst (λ (r : Run). TakesWord (stop_at r) word) (sym view) takes in
     let shared = goes_on_at_shared ended (row p (op_at p thread pc) pc stack locals held) (shared_from_takes (stop_at run_before) word takes') in
-    let shared_here : IsShared (stop_in (row p op pc stack locals held)) = subst (λ (x : Op). IsShared (stop_in (row p x pc stack locals held))) (sym is) shared.1 in
-    let leads = shared_leads p op pc stack locals held (unwrap_or word 0) (enough_for p thread pc depth op stack is deep fine) shared_here in
-    is_run_after p thread fuel pc depth made ended op (pc + 1) depth' later run shared.0 is fine leads.0 (sym deep' ∙ ap length done ∙ leads.1 ∙ ap (depth_after op) deep) (end shared.0)
+    let leads = shared_leads p (op_at p thread pc) pc stack locals held (unwrap_or word 0) (enough_for p thread pc depth (op_at p thread pc) stack refl deep fine) shared.1 in
+    let after : IsRun p thread fuel (pc + 1) depth' (made + 1) later =
+    is_run_after p thread fuel pc depth made ended (op_at p thread pc) (pc + 1) depth' later run shared.0 refl fine leads.0 (sym deep' ∙ ap length done ∙ leads.1 ∙ ap (depth_after (op_at p thread pc)) deep) (end shared.0 ∙ ap (out_of_steps fuel) counted) in
+    subst (λ (n : ℕ). IsRun p thread fuel n depth' made' later) (sym next) (subst (λ (n : ℕ). IsRun p thread fuel (pc + 1) depth' n later) (sym counted) after)

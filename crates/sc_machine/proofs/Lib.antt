@@ -1,4 +1,5 @@
 pub mod AtStop
+mod Completed
 pub mod Digits
 mod Examples
 mod GoingOn

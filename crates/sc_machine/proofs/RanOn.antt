@@ -8,16 +8,12 @@ use Rattle.stride_isa.specs.declared.op.Op.{Op}
 use Rattle.sc_machine.specs.declared.end.End.{End}
 use Rattle.sc_machine.specs.declared.end.End.TheVariants.{OutOfSteps}
 use Rattle.sc_machine.specs.declared.instruction.Next.TheVariants as nexts
-use Rattle.sc_machine.specs.declared.stop.Stop.{Stop}
-use Rattle.sc_machine.specs.declared.stop.Stop.TheVariants.{Read, Write, Update, Enter, Exit, Ended}
 use Rattle.sc_machine.specs.Made.{Made}
 use Rattle.sc_machine.specs.Operands.{operands}
-use Rattle.sc_machine.specs.Running.{RanOn, ended_by}
-use Rattle.sc_machine.specs.ThreadRun.{IsShared}
+use Rattle.sc_machine.specs.Running.{RanOn}
 use Rattle.sc_machine.specs.ThreadRunInside.{IsRun}
-use Rattle.sc_machine.specs.ThreadStep.{Thread, Row, Goes, Ends, Stands, row, now, moved, local_step, settled, out_of_steps}
+use Rattle.sc_machine.specs.ThreadStep.{Thread, Row, Goes, Ends, Stands, row, now, moved, local_step, settled, stop_in, stop_of, out_of_steps}
 use Rattle.sc_machine.proofs.Inside.{spent}
-use Rattle.sc_machine.proofs.Rows.{row_stands}
 use Rattle.sc_machine.proofs.Steps.{settled-standing, settled-step}
 
 -- as many words are on the stack as its depth says
@@ -54,30 +50,21 @@ moved_ending fuel (Ends other) pc made end stack stack' locals locals' held out 
 moved_ending fuel (Stands stop) pc made end stack stack' locals locals' held out out' m = let is = m.next_is in cc
 
 -- the parts of a thread that stands are as they were
-record Unmoved (r : Row) (stop : Stop) (stack stack' locals locals' out out' : List ℕ) : Type 0 where
-  pub row_is : r ≡ Stands stop
+record Unmoved (r : Row) (stack stack' locals locals' out out' : List ℕ) : Type 0 where
+  pub row_is : r ≡ Stands (stop_in r)
   pub stack_same : stack' ≡ stack
   pub locals_same : locals' ≡ locals
   pub out_same : out' ≡ out
 
-unmoved : (r : Row) (stop : Stop) (stack stack' locals locals' : List ℕ) (out out' : Listed ℕ) → Made r (nexts.Stands stop) stack stack' locals locals' out out' → Unmoved r stop stack stack' locals locals' out.items out'.items
-unmoved (Goes pc s l printed) stop stack stack' locals locals' out out' m = let is = m.next_is in cc
-unmoved (Ends end) stop stack stack' locals locals' out out' m = let is = m.next_is in cc
-unmoved (Stands other) stop stack stack' locals locals' out out' m = record {
-  row_is = let is = m.next_is in cc;
+unmoved : (r : Row) (stack stack' locals locals' : List ℕ) (out out' : Listed ℕ) → Made r nexts.Stands stack stack' locals locals' out out' → Unmoved r stack stack' locals locals' out.items out'.items
+unmoved (Goes pc s l printed) stack stack' locals locals' out out' m = let is = m.next_is in cc
+unmoved (Ends end) stack stack' locals locals' out out' m = let is = m.next_is in cc
+unmoved (Stands stop) stack stack' locals locals' out out' m = record {
+  row_is = refl;
   stack_same = m.stack_is;
   locals_same = m.locals_are;
   out_same = m.printed ∙ append-nil out.items;
 }
-
--- a thread at a shared instruction has no end
-pub ended_by-shared : (stop : Stop) → IsShared stop → ended_by stop ≡ None
-ended_by-shared (Read cell) shared = refl
-ended_by-shared (Write cell value) shared = refl
-ended_by-shared (Update cell change) shared = refl
-ended_by-shared (Enter monitor) shared = refl
-ended_by-shared (Exit monitor) shared = refl
-ended_by-shared (Ended end) shared = absurd shared
 
 -- where a thread settles is where it settles after a local instruction, which goes on or uses up the fuel
 pub settled-going : (p : Listing) (fuel t pc made next : ℕ) (op : Op) (stack stack' locals locals' : List ℕ) (held : List Bool) (out out' : Listed ℕ) (later : Option End) → op ≡ op_at p t pc → made < fuel → Made (row p op pc stack locals held) (nexts.Goes next) stack stack' locals locals' out out' → later ≡ out_of_steps fuel (made + 1) → settled p fuel t (thread_of_parts next stack' locals' held out'.items (made + 1) later) ≡ settled p fuel t (thread_of_parts pc stack locals held out.items made None)
@@ -95,31 +82,32 @@ settled-ending p fuel t pc made end op stack stack' locals locals' held out out'
     ap (λ x. moved fuel (row p x pc stack locals held) s) (sym is) ∙ moved_ending fuel (row p op pc stack locals held) pc made end stack stack' locals locals' held out out' m in
     ap (settled p fuel t) (sym stepped) ∙ settled-step p fuel t s had (ap (λ (x : Thread). x.made) stepped)
 
-ran_to : (p : Listing) (fuel t : ℕ) (first last : Thread) (stop : Stop) → now p t last ≡ Stands stop → settled p fuel t last ≡ settled p fuel t first → RanOn p fuel t first last stop
-ran_to p fuel t first last stop stands same = record {
-  settles = sym (settled-standing p fuel t last stop stands) ∙ same;
+ran_to : (p : Listing) (fuel t : ℕ) (first last : Thread) → now p t last ≡ Stands (stop_of p t last) → settled p fuel t last ≡ settled p fuel t first → RanOn p fuel t first last
+ran_to p fuel t first last stands same = record {
+  settles = sym (settled-standing p fuel t last (stop_of p t last) stands) ∙ same;
   stands = stands;
 }
 
 -- where the loop is left as the fuel is used up
-pub ran_spent : (p : Listing) (fuel t pc made next : ℕ) (op : Op) (stack stack' locals locals' : List ℕ) (held : List Bool) (out out' : Listed ℕ) (first : Thread) → settled p fuel t (thread_of_parts pc stack locals held out.items made None) ≡ settled p fuel t first → op ≡ op_at p t pc → made < fuel → Made (row p op pc stack locals held) (nexts.Goes next) stack stack' locals locals' out out' → fuel ≤ made + 1 → RanOn p fuel t first (thread_of_parts next stack' locals' held out'.items (made + 1) (Some OutOfSteps)) (Ended OutOfSteps)
+pub ran_spent : (p : Listing) (fuel t pc made next : ℕ) (op : Op) (stack stack' locals locals' : List ℕ) (held : List Bool) (out out' : Listed ℕ) (first : Thread) → settled p fuel t (thread_of_parts pc stack locals held out.items made None) ≡ settled p fuel t first → op ≡ op_at p t pc → made < fuel → Made (row p op pc stack locals held) (nexts.Goes next) stack stack' locals locals' out out' → fuel ≤ made + 1 → RanOn p fuel t first (thread_of_parts next stack' locals' held out'.items (made + 1) (Some OutOfSteps))
 ran_spent p fuel t pc made next op stack stack' locals locals' held out out' first settles is had m all =
-    ran_to p fuel t first _ (Ended OutOfSteps) refl (settled-going p fuel t pc made next op stack stack' locals locals' held out out' (Some OutOfSteps) is had m (spent fuel (made + 1) all) ∙ settles)
+    ran_to p fuel t first _ refl (settled-going p fuel t pc made next op stack stack' locals locals' held out out' (Some OutOfSteps) is had m (spent fuel (made + 1) all) ∙ settles)
 
 -- where it is left at an end
-pub ran_ended : (p : Listing) (fuel t pc made : ℕ) (end : End) (op : Op) (stack stack' locals locals' : List ℕ) (held : List Bool) (out out' : Listed ℕ) (first : Thread) → settled p fuel t (thread_of_parts pc stack locals held out.items made None) ≡ settled p fuel t first → op ≡ op_at p t pc → made < fuel → Made (row p op pc stack locals held) (nexts.Ends end) stack stack' locals locals' out out' → RanOn p fuel t first (thread_of_parts pc stack' locals' held out'.items (made + 1) (Some end)) (Ended end)
+pub ran_ended : (p : Listing) (fuel t pc made : ℕ) (end : End) (op : Op) (stack stack' locals locals' : List ℕ) (held : List Bool) (out out' : Listed ℕ) (first : Thread) → settled p fuel t (thread_of_parts pc stack locals held out.items made None) ≡ settled p fuel t first → op ≡ op_at p t pc → made < fuel → Made (row p op pc stack locals held) (nexts.Ends end) stack stack' locals locals' out out' → RanOn p fuel t first (thread_of_parts pc stack' locals' held out'.items (made + 1) (Some end))
 ran_ended p fuel t pc made end op stack stack' locals locals' held out out' first settles is had m =
-    ran_to p fuel t first _ (Ended end) refl (settled-ending p fuel t pc made end op stack stack' locals locals' held out out' is had m ∙ settles)
+    ran_to p fuel t first _ refl (settled-ending p fuel t pc made end op stack stack' locals locals' held out out' is had m ∙ settles)
 
 -- where it is left at a shared instruction
-pub ran_stands : (p : Listing) (fuel t pc made : ℕ) (stop : Stop) (op : Op) (stack stack' locals locals' : List ℕ) (held : List Bool) (out out' : Listed ℕ) (first : Thread) → settled p fuel t (thread_of_parts pc stack locals held out.items made None) ≡ settled p fuel t first → op ≡ op_at p t pc → Made (row p op pc stack locals held) (nexts.Stands stop) stack stack' locals locals' out out' → RanOn p fuel t first (thread_of_parts pc stack' locals' held out'.items made (ended_by stop)) stop
-ran_stands p fuel t pc made stop op stack stack' locals locals' held out out' first settles is m =
-    let u = unmoved (row p op pc stack locals held) stop stack stack' locals locals' out out' m in
+pub ran_stands : (p : Listing) (fuel t pc made : ℕ) (op : Op) (stack stack' locals locals' : List ℕ) (held : List Bool) (out out' : Listed ℕ) (first : Thread) → settled p fuel t (thread_of_parts pc stack locals held out.items made None) ≡ settled p fuel t first → op ≡ op_at p t pc → Made (row p op pc stack locals held) nexts.Stands stack stack' locals locals' out out' → RanOn p fuel t first (thread_of_parts pc stack' locals' held out'.items made None)
+ran_stands p fuel t pc made op stack stack' locals locals' held out out' first settles is m =
+    let u = unmoved (row p op pc stack locals held) stack stack' locals locals' out out' m in
     let s = thread_of_parts pc stack locals held out.items made None in
-    let stands : now p t s ≡ Stands stop = ap (λ x. row p x pc stack locals held) (sym is) ∙ u.row_is in
-    let same : thread_of_parts pc stack' locals' held out'.items made (ended_by stop) ≡ s =
-    same_parts pc made stack' stack locals' locals held out'.items out.items (ended_by stop) None u.stack_same u.locals_same u.out_same (ended_by-shared stop (row_stands p op pc stack locals held stop u.row_is)) in
-    ran_to p fuel t first _ stop (ap (now p t) same ∙ stands) (ap (settled p fuel t) same ∙ settles)
+    let same : thread_of_parts pc stack' locals' held out'.items made None ≡ s =
+    same_parts pc made stack' stack locals' locals held out'.items out.items None None u.stack_same u.locals_same u.out_same refl in
+    let StandsThere : Thread → Type 0 = λ x. now p t x ≡ Stands (stop_of p t x) in
+    let here : StandsThere s = subst (λ (x : Op). row p x pc stack locals held ≡ Stands (stop_in (row p x pc stack locals held))) is u.row_is in
+    ran_to p fuel t first _ (subst StandsThere (sym same) here) (ap (settled p fuel t) same ∙ settles)
 
 -- what always holds of a run holds where it ends
 pub is_run_ended : (p : Listing) (t fuel pc depth made : ℕ) (end : End) (stack stack' locals locals' : List ℕ) (r : Row) (out out' : Listed ℕ) (depth' : ℕ) → IsRun p t fuel pc depth made None → length stack ≡ depth → length stack' ≡ depth' → Made r (nexts.Ends end) stack stack' locals locals' out out' → IsRun p t fuel pc depth' (made + 1) (Some end)
@@ -137,9 +125,9 @@ is_run_ended p t fuel pc depth made end stack stack' locals locals' (Ends other)
 is_run_ended p t fuel pc depth made end stack stack' locals locals' (Stands stop) out out' depth' run deep deep' m = let is = m.next_is in cc
 
 -- and where it stands at a shared instruction
-pub is_run_standing : (p : Listing) (t fuel pc depth made : ℕ) (stop : Stop) (op : Op) (stack stack' locals locals' : List ℕ) (held : List Bool) (out out' : Listed ℕ) (depth' : ℕ) → IsRun p t fuel pc depth made None → length stack ≡ depth → length stack' ≡ depth' → Made (row p op pc stack locals held) (nexts.Stands stop) stack stack' locals locals' out out' → IsRun p t fuel pc depth' made (ended_by stop)
-is_run_standing p t fuel pc depth made stop op stack stack' locals locals' held out out' depth' run deep deep' m =
-    let u = unmoved (row p op pc stack locals held) stop stack stack' locals locals' out out' m in
+pub is_run_standing : (p : Listing) (t fuel pc depth made : ℕ) (op : Op) (stack stack' locals locals' : List ℕ) (held : List Bool) (out out' : Listed ℕ) (depth' : ℕ) → IsRun p t fuel pc depth made None → length stack ≡ depth → length stack' ≡ depth' → Made (row p op pc stack locals held) nexts.Stands stack stack' locals locals' out out' → IsRun p t fuel pc depth' made None
+is_run_standing p t fuel pc depth made op stack stack' locals locals' held out out' depth' run deep deep' m =
+    let u = unmoved (row p op pc stack locals held) stack stack' locals locals' out out' m in
     let same : depth ≡ depth' = sym deep ∙ ap length (sym u.stack_same) ∙ deep' in
     record {
       thread_is = run.thread_is;

@@ -1,18 +1,16 @@
 -- What the code of one instruction leaves of the parts of a thread, by what the instruction comes to.
 use Rattle.std.specs.Prelude.{◌≡◌, ℕ, ◌+◌, ◌≤◌, List, ◌++◌, length}
 use Rattle.stride_base.specs.Listed.{Listed}
-use Rattle.stride_isa.specs.Listing.{Listing}
 use Rattle.sc_machine.specs.declared.instruction.Next.{Next}
 use Rattle.sc_machine.specs.declared.instruction.Next.TheVariants as nexts
 use Rattle.sc_machine.specs.Limits.{line_limit}
-use Rattle.sc_machine.specs.ThreadRun.{NamesCell}
 use Rattle.sc_machine.specs.ThreadStep.{Row, Goes, Ends, Stands, printed_by}
 
 -- what comes next, without what it leaves
 abbrev pub next_of : Row → Next
 next_of (Goes pc stack locals printed) = nexts.Goes pc
 next_of (Ends end) = nexts.Ends end
-next_of (Stands stop) = nexts.Stands stop
+next_of (Stands stop) = nexts.Stands
 
 -- the stack that it leaves of this one
 abbrev pub stack_after : Row → List ℕ → List ℕ
@@ -34,9 +32,3 @@ pub record Made (row : Row) (next : Next) (stack stack' locals locals' : List �
   pub printed : out'.items ≡ out.items ++ printed_by row
   pub room : out'.spare + length (printed_by row) ≡ out.spare
   pub few : length (printed_by row) ≤ line_limit
-
--- the cell or the monitor of a shared instruction is one of the program's
-abbrev pub NextNamesCell : Listing → Next → Type 0
-NextNamesCell p (nexts.Goes pc) = Unit {0}
-NextNamesCell p (nexts.Ends end) = Unit {0}
-NextNamesCell p (nexts.Stands stop) = NamesCell p stop

@@ -1,12 +1,10 @@
 -- What the loop of a thread does, over the parts of the thread's state.
-use Rattle.std.specs.Prelude.{◌≡◌, ℕ, List, Bool, Option, Some, None}
+use Rattle.std.specs.Prelude.{◌≡◌, ℕ, List, Bool, Option, None}
 use Rattle.stride_isa.specs.Listing.{Listing}
 use Rattle.sc_machine.specs.declared.end.End.{End}
 use Rattle.sc_machine.specs.declared.running.Cursor.{Cursor}
-use Rattle.sc_machine.specs.declared.stop.Stop.{Stop}
-use Rattle.sc_machine.specs.declared.stop.Stop.TheVariants.{Read, Write, Update, Enter, Exit, Ended}
 use Rattle.sc_machine.specs.Operands.{operands}
-use Rattle.sc_machine.specs.ThreadStep.{Thread, Stands, now, settled}
+use Rattle.sc_machine.specs.ThreadStep.{Thread, Stands, now, stop_of, settled}
 
 -- the thread of these parts, with this end or none
 abbrev pub thread_with : Option End → Cursor → List ℕ → List ℕ → List Bool → List ℕ → Thread
@@ -20,24 +18,11 @@ thread_with ended at words locals held out = record {
   ended = ended;
 }
 
--- the end of a thread that stands there, none at a shared instruction
-abbrev pub ended_by : Stop → Option End
-ended_by (Read cell) = None
-ended_by (Write cell value) = None
-ended_by (Update cell change) = None
-ended_by (Enter monitor) = None
-ended_by (Exit monitor) = None
-ended_by (Ended end) = Some end
-
 -- the thread of these parts, which has not ended
 abbrev pub going : Cursor → List ℕ → List ℕ → List Bool → List ℕ → Thread
 going at words locals held out = thread_with None at words locals held out
 
--- the thread of these parts, which stands at this stop
-abbrev pub left : Cursor → Stop → List ℕ → List ℕ → List Bool → List ℕ → Thread
-left at stop words locals held out = thread_with (ended_by stop) at words locals held out
-
--- the thread settled in this state, in which it stands at this stop
-pub record RanOn (p : Listing) (fuel t : ℕ) (first last : Thread) (stop : Stop) : Type 0 where
+-- the thread settled in this state, in which it stands
+pub record RanOn (p : Listing) (fuel t : ℕ) (first last : Thread) : Type 0 where
   pub settles : last ≡ settled p fuel t first
-  pub stands : now p t last ≡ Stands stop
+  pub stands : now p t last ≡ Stands (stop_of p t last)

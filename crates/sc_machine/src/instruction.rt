@@ -1,12 +1,13 @@
 //! One instruction, over the parts of a thread's state.
-ghost use Rattle.std.specs.Prelude.{◌≡◌, ◌<◌, ◌≤◌, IfSome, length};
+ghost use Rattle.std.specs.Prelude.{◌≡◌, ℕ, List as Words, ◌<◌, ◌≤◌, IfSome, length};
 ghost use Rattle.std.specs.List.{list_any};
 ghost use Rattle.stride_isa.specs.Instructions.{kind, popped};
 ghost use Rattle.stride_isa.specs.Validity.{depth_after, Names};
-ghost use Rattle.sc_machine.specs.ThreadStep.{row, halt_end, member_cell as cell_of_member, done_stack, done_held};
-ghost use Rattle.sc_machine.specs.ThreadRun.{IsCell, IsMonitor};
-ghost use Rattle.sc_machine.specs.declared.end.End.TheVariants.{Trapped};
-ghost use Rattle.sc_machine.specs.Made.{Made, NextNamesCell};
+ghost use Rattle.sc_machine.specs.ThreadStep.{row, halt_end, member_cell as cell_of_member, stop_in, done_stack, done_held};
+ghost use Rattle.sc_machine.specs.ThreadRun.{IsCell, IsMonitor, NamesCell};
+ghost use Rattle.sc_machine.specs.declared.end.End.TheVariants.{Halted, Trapped};
+ghost use Rattle.sc_machine.specs.declared.stop.Stop.TheVariants.{Ended};
+ghost use Rattle.sc_machine.specs.Made.{Made};
 ghost use Rattle.sc_machine.specs.Operands.{operands};
 
 use crate::end::End;
@@ -27,7 +28,7 @@ pub enum Next {
     /// It ended the thread.
     Ends(End),
     /// It is a shared one, and was not made.
-    Stands(Stop),
+    Stands,
 }
 
 // The pattern of an instruction, with a name for its operand.
@@ -161,62 +162,42 @@ macro_rules! branches {
 
 macro_rules! stands {
     (Read ($program:ident $pc:ident $words:ident $top:ident $locals:ident $held:ident $out:ident) $decl:ident) => {
-        Next::Stands(Stop::Read {
-            cell: $program.first_cell($decl),
-        })
+        Next::Stands
     };
     (Write ($program:ident $pc:ident $words:ident $top:ident $locals:ident $held:ident $out:ident) $decl:ident) => {
-        Next::Stands(Stop::Write {
-            cell: $program.first_cell($decl),
-            value: $top.peek($words, 0),
-        })
+        Next::Stands
     };
     (ReadAt ($program:ident $pc:ident $words:ident $top:ident $locals:ident $held:ident $out:ident) $decl:ident) => {
         match member_cell($program, $decl, $top.peek($words, 0)) {
-            Some(cell) => Next::Stands(Stop::Read { cell }),
+            Some(_) => Next::Stands,
             None => Next::Ends(trapped(Trap::Range, $pc)),
         }
     };
     (WriteAt ($program:ident $pc:ident $words:ident $top:ident $locals:ident $held:ident $out:ident) $decl:ident) => {
         match member_cell($program, $decl, $top.peek($words, 0)) {
-            Some(cell) => Next::Stands(Stop::Write {
-                cell,
-                value: $top.peek($words, 1),
-            }),
+            Some(_) => Next::Stands,
             None => Next::Ends(trapped(Trap::Range, $pc)),
         }
     };
     (Xchg ($program:ident $pc:ident $words:ident $top:ident $locals:ident $held:ident $out:ident) $decl:ident) => {
-        Next::Stands(Stop::Update {
-            cell: $program.first_cell($decl),
-            change: Change::Store($top.peek($words, 0)),
-        })
+        Next::Stands
     };
     (AddTo ($program:ident $pc:ident $words:ident $top:ident $locals:ident $held:ident $out:ident) $decl:ident) => {
-        Next::Stands(Stop::Update {
-            cell: $program.first_cell($decl),
-            change: Change::Plus($top.peek($words, 0)),
-        })
+        Next::Stands
     };
     (Cas ($program:ident $pc:ident $words:ident $top:ident $locals:ident $held:ident $out:ident) $decl:ident) => {
-        Next::Stands(Stop::Update {
-            cell: $program.first_cell($decl),
-            change: Change::IfEqual {
-                expected: $top.peek($words, 1),
-                new: $top.peek($words, 0),
-            },
-        })
+        Next::Stands
     };
     (Enter ($program:ident $pc:ident $words:ident $top:ident $locals:ident $held:ident $out:ident) $monitor:ident) => {
         if $held[monitor_index($program, $monitor)] {
             Next::Ends(trapped(Trap::Again, $pc))
         } else {
-            Next::Stands(Stop::Enter { mon: $monitor })
+            Next::Stands
         }
     };
     (Exit ($program:ident $pc:ident $words:ident $top:ident $locals:ident $held:ident $out:ident) $monitor:ident) => {
         if $held[monitor_index($program, $monitor)] {
-            Next::Stands(Stop::Exit { mon: $monitor })
+            Next::Stands
         } else {
             Next::Ends(trapped(Trap::NotHeld, $pc))
         }
@@ -238,8 +219,123 @@ macro_rules! halts {
 
 macro_rules! arms {
     (($parts:tt $op:ident) $([$variant:ident $operand:tt $name:literal $popped:literal $pushed:literal $class:ident $($how:tt)*])*) => {
-        match $op {
+        match *$op {
             $(with_operand!($variant $operand value) => $class!($variant $parts value $($how)*),)*
+        }
+    };
+}
+
+// Where a thread stands at an instruction: a shared one that does not trap.
+macro_rules! stop_told {
+    (stands Read ($program:ident $words:ident $top:ident $held:ident) $decl:ident) => {
+        Stop::Read {
+            cell: $program.first_cell($decl),
+        }
+    };
+    (stands Write ($program:ident $words:ident $top:ident $held:ident) $decl:ident) => {
+        Stop::Write {
+            cell: $program.first_cell($decl),
+            value: $top.peek($words, 0),
+        }
+    };
+    (stands ReadAt ($program:ident $words:ident $top:ident $held:ident) $decl:ident) => {
+        match member_cell($program, $decl, $top.peek($words, 0)) {
+            Some(cell) => Stop::Read { cell },
+            None => no_stop(),
+        }
+    };
+    (stands WriteAt ($program:ident $words:ident $top:ident $held:ident) $decl:ident) => {
+        match member_cell($program, $decl, $top.peek($words, 0)) {
+            Some(cell) => Stop::Write {
+                cell,
+                value: $top.peek($words, 1),
+            },
+            None => no_stop(),
+        }
+    };
+    (stands Xchg ($program:ident $words:ident $top:ident $held:ident) $decl:ident) => {
+        Stop::Update {
+            cell: $program.first_cell($decl),
+            change: Change::Store($top.peek($words, 0)),
+        }
+    };
+    (stands AddTo ($program:ident $words:ident $top:ident $held:ident) $decl:ident) => {
+        Stop::Update {
+            cell: $program.first_cell($decl),
+            change: Change::Plus($top.peek($words, 0)),
+        }
+    };
+    (stands Cas ($program:ident $words:ident $top:ident $held:ident) $decl:ident) => {
+        Stop::Update {
+            cell: $program.first_cell($decl),
+            change: Change::IfEqual {
+                expected: $top.peek($words, 1),
+                new: $top.peek($words, 0),
+            },
+        }
+    };
+    (stands Enter ($program:ident $words:ident $top:ident $held:ident) $monitor:ident) => {
+        if $held[monitor_index($program, $monitor)] {
+            no_stop()
+        } else {
+            Stop::Enter { mon: $monitor }
+        }
+    };
+    (stands Exit ($program:ident $words:ident $top:ident $held:ident) $monitor:ident) => {
+        if $held[monitor_index($program, $monitor)] {
+            Stop::Exit { mon: $monitor }
+        } else {
+            no_stop()
+        }
+    };
+    (pushes $variant:ident $parts:tt $value:ident) => {
+        no_stop()
+    };
+    (stack $variant:ident $parts:tt $value:ident) => {
+        no_stop()
+    };
+    (two $variant:ident $parts:tt $value:ident) => {
+        no_stop()
+    };
+    (quotient $variant:ident $parts:tt $value:ident) => {
+        no_stop()
+    };
+    (bits $variant:ident $parts:tt $value:ident) => {
+        no_stop()
+    };
+    (shift $variant:ident $parts:tt $value:ident) => {
+        no_stop()
+    };
+    (compare $variant:ident $parts:tt $value:ident) => {
+        no_stop()
+    };
+    (complement $variant:ident $parts:tt $value:ident) => {
+        no_stop()
+    };
+    (gets $variant:ident $parts:tt $value:ident) => {
+        no_stop()
+    };
+    (sets $variant:ident $parts:tt $value:ident) => {
+        no_stop()
+    };
+    (jumps $variant:ident $parts:tt $value:ident) => {
+        no_stop()
+    };
+    (branches $variant:ident $parts:tt $value:ident) => {
+        no_stop()
+    };
+    (prints $variant:ident $parts:tt $value:ident) => {
+        no_stop()
+    };
+    (halts $variant:ident $parts:tt $value:ident) => {
+        no_stop()
+    };
+}
+
+macro_rules! stops {
+    (($parts:tt $op:ident) $([$variant:ident $operand:tt $name:literal $popped:literal $pushed:literal $class:ident $($how:tt)*])*) => {
+        match *$op {
+            $(with_operand!($variant $operand value) => stop_told!($class $variant $parts value),)*
         }
     };
 }
@@ -325,12 +421,13 @@ macro_rules! finished {
 
 macro_rules! finishings {
     (($parts:tt $op:ident) $([$variant:ident $operand:tt $name:literal $popped:literal $pushed:literal $class:ident $($how:tt)*])*) => {
-        match $op {
+        match *$op {
             $(with_operand!($variant $operand value) => finished!($class $variant $parts value),)*
         }
     };
 }
 
+#[inline(never)]
 fn any_held(held: &[bool]) -> bool
     ensures { result ≡ list_any (λ flag. flag) held.now }
 {
@@ -345,6 +442,7 @@ fn trapped(trap: Trap, pc: u32) -> End
 }
 
 // The end that a `halt` gives.
+#[inline(always)]
 fn end_of_halt(held: &[bool], pc: u32) -> End
     ensures { result ≡ halt_end held.now pc }
 {
@@ -353,6 +451,13 @@ fn end_of_halt(held: &[bool], pc: u32) -> End
     } else {
         End::Halted
     }
+}
+
+// What is told as the stop of a thread that stands nowhere.
+fn no_stop() -> Stop
+    ensures { result ≡ Ended Halted }
+{
+    Stop::Ended { end: End::Halted }
 }
 
 // The cell of an array's member, or `None` exactly where the index is not below the array's size.
@@ -382,8 +487,9 @@ fn monitor_index(program: &Checked, monitor: u32) -> usize
 }
 
 /// Executes a local instruction, or tells of a shared one, at which the thread stands.
+#[inline(always)]
 pub fn execute(
-    op: Op,
+    op: &Op,
     program: &Checked,
     pc: u32,
     words: &mut [u64; STACK_LIMIT],
@@ -393,30 +499,46 @@ pub fn execute(
     out: &mut List<u8>,
 ) -> Next
     requires position { pc < INSTRUCTION_LIMIT }
-    requires enough { popped (kind op) ≤ length (operands words.old top.old.depth) }
-    requires room { depth_after op (length (operands words.old top.old.depth)) ≤ STACK_LIMIT }
-    requires names { Names program.now op }
+    requires enough { popped (kind op.now) ≤ length (operands words.old top.old.depth) }
+    requires room { depth_after op.now (length (operands words.old top.old.depth)) ≤ STACK_LIMIT }
+    requires names { Names program.now op.now }
     requires spare { LINE_LIMIT ≤ out.old.spare }
-    ensures made { Made (row program.now op pc (operands words.old top.old.depth) locals.old held.now) result (operands words.old top.old.depth) (operands words.new top.new.depth) locals.old locals.new out.old out.new }
-    ensures names_cell { NextNamesCell program.now result }
+    ensures made { Made (row program.now op.now pc (operands words.old top.old.depth) locals.old held.now) result (operands words.old top.old.depth) (operands words.new top.new.depth) locals.old locals.new out.old out.new }
 {
     instructions!(arms!((program pc words top locals held out) op))
 }
 
+/// The shared instruction at which the thread stands. At an instruction that is local or traps it stands nowhere.
+#[inline(always)]
+pub fn stop_of(
+    op: &Op,
+    program: &Checked,
+    words: &[u64; STACK_LIMIT],
+    top: Top,
+    held: &[bool; MONITOR_LIMIT],
+) -> Stop
+    requires enough { popped (kind op.now) ≤ length (operands words.now top.depth) }
+    requires names { Names program.now op.now }
+    ensures is { (pc : ℕ) → (locals : Words ℕ) → result ≡ stop_in (row program.now op.now pc (operands words.now top.depth) locals held.now) }
+    ensures names_cell { NamesCell program.now result }
+{
+    instructions!(stops!((program words top held) op))
+}
+
 /// Completes a shared instruction, which is given the word that it reads, or 0.
 pub fn finish(
-    op: Op,
+    op: &Op,
     program: &Checked,
     word: u64,
     words: &mut [u64; STACK_LIMIT],
     top: &mut Top,
     held: &mut [bool; MONITOR_LIMIT],
 )
-    requires enough { popped (kind op) ≤ length (operands words.old top.old.depth) }
-    requires room { depth_after op (length (operands words.old top.old.depth)) ≤ STACK_LIMIT }
-    requires names { Names program.now op }
-    ensures stack { operands words.new top.new.depth ≡ done_stack op (operands words.old top.old.depth) word }
-    ensures held { held.new ≡ done_held op held.old }
+    requires enough { popped (kind op.now) ≤ length (operands words.old top.old.depth) }
+    requires room { depth_after op.now (length (operands words.old top.old.depth)) ≤ STACK_LIMIT }
+    requires names { Names program.now op.now }
+    ensures stack { operands words.new top.new.depth ≡ done_stack op.now (operands words.old top.old.depth) word }
+    ensures held { held.new ≡ done_held op.now held.old }
     ensures whole { length words.new ≡ length words.old }
 {
     instructions!(finishings!((program word words top held) op));

@@ -1,14 +1,16 @@
 //! The loop that runs a thread up to where it stands.
-ghost use Rattle.std.specs.Prelude.{◌≡◌, ◌+◌, ◌-◌, ◌*◌, ◌≤◌, None, length};
-ghost use Rattle.sc_machine.specs.Running.{RanOn, ended_by, going, left};
-ghost use Rattle.sc_machine.specs.ThreadRun.{NamesCell};
+ghost use Rattle.std.specs.Prelude.{◌≡◌, ◌+◌, ◌-◌, ◌*◌, ◌<◌, ◌≤◌, None, length};
+ghost use Rattle.stride_isa.specs.Listing.{code_of, op_at};
+ghost use Rattle.stride_isa.specs.Validity.{IsFine, Reaches};
+ghost use Rattle.sc_machine.specs.Operands.{operands};
+ghost use Rattle.sc_machine.specs.ThreadStep.{done_held, done_stack};
+ghost use Rattle.sc_machine.specs.Running.{RanOn, going, thread_with};
 ghost use Rattle.sc_machine.specs.ThreadRunInside.{IsRun};
 
 use crate::end::End;
-use crate::instruction::{Next, execute};
+use crate::instruction::{Next, execute, finish};
 use crate::limits::LINE_LIMIT;
 use crate::operands::Top;
-use crate::stop::Stop;
 use crate::task::Task;
 use stride_base::List;
 use stride_isa::limits::{LOCAL_COUNT, MONITOR_LIMIT, STACK_LIMIT};
@@ -21,7 +23,34 @@ pub struct Cursor {
     pub top: Top,
 }
 
-/// Makes local instructions from this place up to the next shared one or the end, and tells which it is and where.
+/// Completes the shared instruction at this place, which is given the word that it reads, or 0, and tells the next place.
+#[inline(always)]
+pub fn completed(
+    task: Task<'_>,
+    from: Cursor,
+    word: u64,
+    words: &mut [u64; STACK_LIMIT],
+    held: &mut [bool; MONITOR_LIMIT],
+) -> Cursor
+    requires inside { from.pc < length (code_of task.program.now task.thread) }
+    requires reaches { Reaches task.program.now task.thread from.pc from.top.depth }
+    requires made { from.made ≤ task.fuel }
+    ensures pc { result.pc ≡ from.pc + 1 }
+    ensures made { result.made ≡ from.made + 1 }
+    ensures stack { operands words.new result.top.depth
+        ≡ done_stack (op_at task.entry.program.now task.entry.thread from.pc) (operands words.old from.top.depth) word }
+    ensures held { held.new ≡ done_held (op_at task.entry.program.now task.entry.thread from.pc) held.old }
+    ensures whole { length words.new ≡ length words.old }
+    ensures fine { IsFine task.entry.program.now task.entry.thread from.pc from.top.depth }
+{
+    let mut at = from;
+    finish(task.op(at.pc), task.program, word, words, &mut at.top, held);
+    at.pc += 1;
+    at.made += 1;
+    at
+}
+
+/// Makes local instructions from this place up to the next shared one or the end, and tells where, and the end.
 #[inline(always)]
 pub fn run_on(
     task: Task<'_>,
@@ -30,15 +59,13 @@ pub fn run_on(
     locals: &mut [u64; LOCAL_COUNT],
     held: &[bool; MONITOR_LIMIT],
     out: &mut List<u8>,
-) -> (Cursor, Stop)
+) -> (Cursor, Option<End>)
     requires run { IsRun task.program.now task.thread task.fuel from.pc from.top.depth from.made None }
     requires spare { LINE_LIMIT * (task.fuel - from.made) ≤ out.old.spare }
     ensures ran { RanOn task.entry.program.now task.entry.fuel task.entry.thread
         (going from words.old locals.old held.now out.old.items)
-        (left result.0 result.1 words.new locals.new held.now out.new.items)
-        result.1 }
-    ensures run { IsRun task.entry.program.now task.entry.thread task.entry.fuel result.0.pc result.0.top.depth result.0.made (ended_by result.1) }
-    ensures names_cell { NamesCell task.entry.program.now result.1 }
+        (thread_with result.1 result.0 words.new locals.new held.now out.new.items) }
+    ensures run { IsRun task.entry.program.now task.entry.thread task.entry.fuel result.0.pc result.0.top.depth result.0.made result.1 }
     ensures made { from.made ≤ result.0.made }
     ensures spare { LINE_LIMIT * (task.entry.fuel - result.0.made) ≤ out.new.spare }
     ensures used { out.new.spare + length out.new.items ≡ out.old.spare + length out.old.items }
@@ -60,15 +87,14 @@ pub fn run_on(
                 at.pc = next;
                 at.made += 1;
                 if at.made >= task.fuel {
-                    let end = End::OutOfSteps;
-                    return (at, Stop::Ended { end });
+                    return (at, Some(End::OutOfSteps));
                 }
             }
             Next::Ends(end) => {
                 at.made += 1;
-                return (at, Stop::Ended { end });
+                return (at, Some(end));
             }
-            Next::Stands(stop) => return (at, stop),
+            Next::Stands => return (at, None),
         }
     }
 }

@@ -23,7 +23,6 @@ use stride_isa::limits::FUEL_LIMIT;
 pub struct StandingThread<'p> {
     run: ThreadRun<'p>,
     printed: List<u8>,
-    stop: Stop,
 }
 
 impl<'p> Model for StandingThread<'p> {
@@ -35,7 +34,7 @@ impl<'p> Model for StandingThread<'p> {
 
     ghost view = { λ a. record { program = a.run.program; number = a.run.thread; fuel = a.run.fuel; state = state a.run a.printed.items } };
 
-    ghost invariant = { λ a. IsStanding a.run a.printed a.stop };
+    ghost invariant = { λ a. IsStanding a.run a.printed };
 }
 
 impl<'p> StandingThread<'p> {
@@ -54,18 +53,19 @@ impl<'p> StandingThread<'p> {
         let mut printed = List::new(alloc);
         printed.reserve(LINE_LIMIT * fuel as usize)?;
         let mut run = ThreadRun::start(program, number, fuel);
-        let stop = run.local(&mut printed);
-        Ok(StandingThread { run, printed, stop })
+        run.settle(&mut printed);
+        Ok(StandingThread { run, printed })
     }
 
     /// Where the thread stands.
+    #[inline(always)]
     pub fn stop(&self) -> Stop
         ensures stop { result ≡ stop_here self.now }
         ensures stands { now self.now.program self.now.number self.now.state ≡ Stands result }
         ensures names_cell { NamesCell self.now.program result }
         ensures fuel_left { IsShared result → self.now.state.made < self.now.fuel }
     {
-        self.stop
+        self.run.stop()
     }
 
     /// Completes the shared instruction at which the thread stands, and makes its local instructions up to where it stands
@@ -74,8 +74,7 @@ impl<'p> StandingThread<'p> {
         requires { TakesWord (stop_here self.old) word }
         ensures { self.new ≡ standing_after (unwrap_or word 0) self.old }
     {
-        self.run.answer(word);
-        self.stop = self.run.local(&mut self.printed);
+        self.run.go_on(word, &mut self.printed);
     }
 
     /// Ends the thread at the shared instruction where it stands. The instruction is not counted.
@@ -83,8 +82,7 @@ impl<'p> StandingThread<'p> {
         requires { IsShared (stop_here self.old) }
         ensures { self.new ≡ record self.old { state = stopped self.old.state } }
     {
-        let end = self.run.give_up();
-        self.stop = Stop::Ended { end };
+        self.run.give_up();
     }
 
     /// What the thread printed so far.
@@ -100,7 +98,7 @@ impl<'p> StandingThread<'p> {
         ensures printed { result.1.items ≡ self.entry.state.out }
     {
         let mut run = self.run;
-        let end = match self.stop {
+        let end = match run.stop() {
             Stop::Ended { end } => end,
             Stop::Read { cell: _ }
             | Stop::Write { cell: _, value: _ }

@@ -42,13 +42,13 @@ impl<'p> Task<'p> {
 
     /// The instruction at a position.
     #[inline(always)]
-    pub fn op(&self, at: u32) -> Op
+    pub fn op(&self, at: u32) -> &'p Op
         requires { at < length (code_of self.now.program.now self.now.thread) }
-        ensures is { result ≡ op_at self.now.program.now self.now.thread at }
+        ensures is { result.now ≡ op_at self.now.program.now self.now.thread at }
         ensures small { at < INSTRUCTION_LIMIT }
         ensures fine { (depth : ℕ) → Reaches self.now.program.now self.now.thread at depth → IsFine self.now.program.now self.now.thread at depth }
     {
         self.program.facts();
-        self.code[at as usize]
+        &self.code[at as usize]
     }
 }

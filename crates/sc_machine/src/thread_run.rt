@@ -1,14 +1,14 @@
 //! One thread's run.
 ghost use Rattle.std.specs.Prelude.{◌≡◌, ◌+◌, ◌-◌, ◌*◌, ◌≤◌, ◌<◌, Some, length, unwrap_or};
-ghost use Rattle.sc_machine.specs.ThreadStep.{holds, settled};
+ghost use Rattle.sc_machine.specs.ThreadStep.{answered, holds, settled};
 ghost use Rattle.sc_machine.specs.ThreadRun.{start_run, state, stop_at, StandsAt, SameThread, IsAnswered, IsShared, TakesWord, NamesCell};
 ghost use Rattle.sc_machine.specs.declared.end.End.TheVariants.{Stopped};
 
 use crate::end::End;
-use crate::instruction::finish;
+use crate::instruction::stop_of;
 use crate::limits::LINE_LIMIT;
 use crate::operands::Top;
-use crate::running::{Cursor, run_on};
+use crate::running::{Cursor, completed, run_on};
 use crate::stop::Stop;
 use crate::task::Task;
 use std::marker::Model;
@@ -80,10 +80,26 @@ impl<'p> ThreadRun<'p> {
         ensures spare { LINE_LIMIT * (self.new.fuel - self.new.made) ≤ out.new.spare }
         ensures used { out.new.spare + length out.new.items ≡ out.old.spare + length out.old.items }
     {
-        if let Some(end) = self.ended {
-            return Stop::Ended { end };
+        self.settle(out);
+        self.stop()
+    }
+
+    /// The same as `local`, but does not tell where the thread stands then.
+    #[inline(never)]
+    pub(crate) fn settle(&mut self, out: &mut List<u8>)
+        requires { LINE_LIMIT * (self.old.fuel - self.old.made) ≤ out.old.spare }
+        ensures state { state self.new out.new.items
+            ≡ settled self.old.program self.old.fuel self.old.thread (state self.old out.old.items) }
+        ensures stands { StandsAt self.new (stop_at self.new) }
+        ensures same { SameThread self.old self.new }
+        ensures made { self.old.made ≤ self.new.made }
+        ensures spare { LINE_LIMIT * (self.new.fuel - self.new.made) ≤ out.new.spare }
+        ensures used { out.new.spare + length out.new.items ≡ out.old.spare + length out.old.items }
+    {
+        if self.ended.is_some() {
+            return;
         }
-        let (at, stop) = run_on(
+        let (at, ended) = run_on(
             self.task,
             self.at,
             &mut self.words,
@@ -92,10 +108,28 @@ impl<'p> ThreadRun<'p> {
             out,
         );
         self.at = at;
-        if let Stop::Ended { end } = stop {
+        if let Some(end) = ended {
             self.ended = Some(end);
         }
-        stop
+    }
+
+    /// Where the thread stands once it has settled.
+    #[inline(always)]
+    pub(crate) fn stop(&self) -> Stop
+        ensures stop { result ≡ stop_at self.now }
+        ensures names_cell { NamesCell self.now.program result }
+        ensures fuel_left { IsShared result → self.now.made < self.now.fuel }
+    {
+        match self.ended {
+            Some(end) => Stop::Ended { end },
+            None => stop_of(
+                self.task.op(self.at.pc),
+                self.task.program,
+                &self.words,
+                self.at.top,
+                &self.held,
+            ),
+        }
     }
 
     /// Completes the shared instruction at which the thread stands. The word is there exactly for a read or an
@@ -106,20 +140,52 @@ impl<'p> ThreadRun<'p> {
         ensures made { self.new.made ≡ self.old.made + 1 }
         ensures same { SameThread self.old self.new }
     {
-        let mut at = self.at;
-        finish(
-            self.task.op(at.pc),
-            self.task.program,
+        self.at = completed(
+            self.task,
+            self.at,
             word.unwrap_or(0),
             &mut self.words,
-            &mut at.top,
             &mut self.held,
         );
-        at.pc += 1;
-        at.made += 1;
-        self.at = at;
-        if at.made >= self.task.fuel {
+        if self.at.made >= self.task.fuel {
             self.ended = Some(End::OutOfSteps);
+        }
+    }
+
+    /// The same as `answer` and `local` after it, but does not tell where the thread stands then.
+    #[inline(always)]
+    pub(crate) fn go_on(&mut self, word: Option<u64>, out: &mut List<u8>)
+        requires word { TakesWord (stop_at self.old) word }
+        requires spare { LINE_LIMIT * (self.old.fuel - self.old.made) ≤ out.old.spare }
+        ensures state { state self.new out.new.items ≡ settled self.old.program self.old.fuel self.old.thread
+            (answered self.old.program self.old.fuel self.old.thread (unwrap_or word 0) (state self.old out.old.items)) }
+        ensures stands { StandsAt self.new (stop_at self.new) }
+        ensures same { SameThread self.old self.new }
+        ensures spare { LINE_LIMIT * (self.new.fuel - self.new.made) ≤ out.new.spare }
+    {
+        let next = completed(
+            self.task,
+            self.at,
+            word.unwrap_or(0),
+            &mut self.words,
+            &mut self.held,
+        );
+        if next.made >= self.task.fuel {
+            self.at = next;
+            self.ended = Some(End::OutOfSteps);
+            return;
+        }
+        let (at, ended) = run_on(
+            self.task,
+            next,
+            &mut self.words,
+            &mut self.locals,
+            &self.held,
+            out,
+        );
+        self.at = at;
+        if let Some(end) = ended {
+            self.ended = Some(end);
         }
     }
 

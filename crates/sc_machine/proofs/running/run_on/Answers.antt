@@ -39,8 +39,8 @@ returns-in-Ends-clause-run c =
 
 pub returns-in-Stands-clause-ran : goal.returns-in-Stands-clause-ran
 returns-in-Stands-clause-ran c =
-    ran_stands _ _ _ _ _ _ _ _ _ _ _ _ _ _ _ c.instructions.invariant.settles c.op-op.ensures.is c.in-Stands.ensures.made
+    ran_stands _ _ _ _ _ _ _ _ _ _ _ _ _ _ c.instructions.invariant.settles c.op-op.ensures.is c.in-Stands.ensures.made
 
 pub returns-in-Stands-clause-run : goal.returns-in-Stands-clause-run
 returns-in-Stands-clause-run c =
-    is_run_standing _ _ _ _ _ _ _ c.op-op.result _ _ _ _ c.args.held.now _ _ _ c.instructions.invariant.run (length-operands _ _ (omega arith)) (length-operands _ _ (omega arith)) c.in-Stands.ensures.made
+    is_run_standing _ _ _ _ _ _ c.op-op.result.now _ _ _ _ c.args.held.now _ _ _ c.instructions.invariant.run (length-operands _ _ (omega arith)) (length-operands _ _ (omega arith)) c.in-Stands.ensures.made

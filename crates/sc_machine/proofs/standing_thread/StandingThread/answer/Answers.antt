@@ -5,5 +5,5 @@ use Rattle.sc_machine.proofs.standing_thread.StandingThread.answer.Goals as goal
 
 pub returns : goal.returns
 returns c =
-    went_on c.self.inside.run c.answer.new.self c.local-self-inside.new.self c.self.inside.printed c.local-self-inside.new.out (unwrap_or c.args.word 0) c.answer.ensures.state c.answer.ensures.same c.local-self-inside.ensures.state c.local-self-inside.ensures.same
+    went_on c.self.inside.run c.go_on.new.self c.self.inside.printed c.go_on.new.out (unwrap_or c.args.word 0) c.go_on.ensures.state c.go_on.ensures.same
     ∙ ap (standing_after (unwrap_or c.args.word 0)) c.self.view_is
