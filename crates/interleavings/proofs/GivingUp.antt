@@ -178,8 +178,7 @@ unfolding driven recording_of whole_run
 driven-gives_up g order known t below gives =
     let d = settled_run g order in
     let s = thread_of d t in
-    let at_stop = settled-stopped g order known t below gives in
-    (
+    let at_stop = settled-stopped g order known t below gives in (
       s.pc,
       end_at d.threads t (omega (arith, (reached-run g d (reached-settled g order known)).count)) ∙ ap (λ ended. Some (unwrap_or ended (Stopped s.pc))) at_stop.stopped,
       at_stop.gave_up,

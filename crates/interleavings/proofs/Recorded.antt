@@ -47,7 +47,7 @@ driven-recording laws g order some known all_gave_up = record {
   ends = λ t end found.
       by_end g t (activity_of g (whole_run g order).steps t).looks end
       (λ gives.
-        let gave_up = driven-gives_up g order known t (end_within g order t end known found) gives in
-        (gave_up.0, some_end end (Stopped gave_up.0) (sym found ∙ gave_up.1), gave_up.2 some))
+      let gave_up = driven-gives_up g order known t (end_within g order t end known found) gives in
+      (gave_up.0, some_end end (Stopped gave_up.0) (sym found ∙ gave_up.1), gave_up.2 some))
       (λ pc is. all_gave_up t pc (found ∙ ap Some is));
 }

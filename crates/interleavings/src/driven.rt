@@ -13,11 +13,11 @@ use crate::results::{end_all, last_values, logs_of};
 use crate::simulation::Simulation;
 use crate::simulation_start::start_simulation;
 use sc_machine::End;
-use stride_isa::limits::{FUEL_LIMIT, THREAD_LIMIT};
 use std::alloc::Global;
 use stride_base::limits::ORDER_LIMIT;
 use stride_base::{List, NoMemory};
 use stride_isa::Checked;
+use stride_isa::limits::{FUEL_LIMIT, THREAD_LIMIT};
 
 /// A recording: each thread's log, what it printed and how it ended, in order of number, and the last value of each cell.
 #[derive(Drop)]

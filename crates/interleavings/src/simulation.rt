@@ -6,9 +6,9 @@ use crate::driven_thread::go_on;
 use crate::rest::Rest;
 use crate::step_choice::{has_claimed, is_exit, is_loaded, next_step};
 use sc_machine::StandingThread;
-use stride_isa::limits::THREAD_LIMIT;
 use stride_base::NoMemory;
 use stride_isa::Checked;
+use stride_isa::limits::THREAD_LIMIT;
 
 /// The threads of a program over one core.
 #[derive(Drop)]

@@ -17,11 +17,11 @@ use crate::layout::Layout;
 use crate::simulation::Simulation;
 use crate::step_words::AtomicStep;
 use sc_machine::StandingThread;
-use stride_isa::limits::FUEL_LIMIT;
 use std::alloc::{AllocError, Global};
 use std::collections::LinkedList;
 use stride_base::NoMemory;
 use stride_isa::Checked;
+use stride_isa::limits::FUEL_LIMIT;
 
 // The row of the words at the start: the cells' starting values, and otherwise 0.
 fn starting_words(alloc: Global, program: &Checked, layout: Layout) -> Result<Vec<u64>, AllocError>

@@ -248,7 +248,11 @@ fn append(events: &mut LinkedList<Event>, event: Option<Event>) -> Result<(), No
 }
 
 /// Changes what the thread does, as the step that met this word does, and tells the event that it finishes, if there is one.
-pub fn step_activity(activity: &mut Activity, step: AtomicStep, met: u64) -> Result<Option<Event>, NoMemory>
+pub fn step_activity(
+    activity: &mut Activity,
+    step: AtomicStep,
+    met: u64,
+) -> Result<Option<Event>, NoMemory>
     requires met { IsWordWithin STEP_LIMIT (word_of step.kind step.at) met }
     requires activity { IsActivityWithin STEP_LIMIT activity.old }
     ensures activity { OnOk result (activity.new ≡ activity_after step.kind step.at step.value activity.old met) }

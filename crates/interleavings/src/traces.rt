@@ -5,11 +5,11 @@ ghost use Rattle.stride_isa.specs.Listing.{starts_of};
 ghost use Rattle.interleavings.specs.TraceLists.{IsInRange, events_of, no_events as none, with_event_of};
 
 use crate::event::Event;
-use stride_isa::limits::{CELL_LIMIT, FUEL_LIMIT, MONITOR_LIMIT, THREAD_LIMIT};
 use std::alloc::Global;
 use std::marker::Model;
 use std::sync::ledger::Ledger;
 use stride_base::{NoMemory, Steps};
+use stride_isa::limits::{CELL_LIMIT, FUEL_LIMIT, MONITOR_LIMIT, THREAD_LIMIT};
 use stride_isa::{Checked, each_cell_starts};
 
 /// A thread and the position of an event among that thread's events, both from 0.
