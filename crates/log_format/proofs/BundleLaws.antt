@@ -19,7 +19,7 @@ use Rattle.log_format.specs.Laws.{IsSpelled, IsBegun, IsUnfinished, TellsWrong, 
 use Rattle.log_format.specs.Reading.{◌>>=◌, Refusal, short, fault, magic_at, body_at, bundle_at, placed, reading}
 use Rattle.log_format.specs.Spelling.{body_bytes, digit, magic, spelling}
 use Rattle.log_format.proofs.Bytes.{IsBytes-after}
-use Rattle.log_format.proofs.EntryReaders.{IsBody, a_body, body_begins, body_reads}
+use Rattle.log_format.proofs.BodyReaders.{IsBody, a_body, body_begins, body_reads}
 use Rattle.log_format.proofs.NumberReaders.{IsMagic, magic_begins, magic_reads, none_unfinished, not_empty}
 use Rattle.log_format.proofs.Readers.{chosen, given, failed, ok_is, err_is, ok_fails, moved, IsWrong, Joined, Reads, reads_then}
 
