@@ -17,24 +17,31 @@ use Rattle.log_format.proofs.LogReaders.{IsLogs, LogFits, logs_begin, logs_read,
 
 -- ---- what stands after the magic bytes
 
+-- the text is what stands after the magic bytes of a bundle that the version can hold
 abbrev pub IsBody : Version → Bundled → List ℕ → Type 0
 IsBody version bundle text = IsInRange version bundle × (text ≡ body_bytes version bundle)
 
+-- what stands after the number of threads: their logs
 abbrev AfterThreads : Version → ℕ → List ℕ → ℕ → Bundled → List ℕ → Type 0
 AfterThreads version fuel text threads = Joined (IsLogs version fuel threads) (λ logs. IsDone (record { fuel = fuel; text = text; logs = logs }))
 
+-- what stands after the text: the number of threads, and their logs
 abbrev AfterText : Version → ℕ → List ℕ → Bundled → List ℕ → Type 0
 AfterText version fuel text = Joined (IsUpTo version Bits16 thread_limit) (AfterThreads version fuel text)
 
+-- what stands after the bound on the instructions: the text, and what follows it
 abbrev AfterFuel : Version → ℕ → Bundled → List ℕ → Type 0
 AfterFuel version fuel = Joined (IsText version) (AfterText version fuel)
 
+-- the reader of what stands after the number of threads
 abbrev after_threads : Version → ℕ → List ℕ → ℕ × List ℕ → Result (Bundled × List ℕ) Fault
 after_threads version fuel text threads = logs_at version fuel threads.0 threads.1 >>= λ logs. Ok (record { fuel = fuel; text = text; logs = logs.0 }, logs.1)
 
+-- the reader of what stands after the text
 abbrev after_text : Version → ℕ → List ℕ × List ℕ → Result (Bundled × List ℕ) Fault
 after_text version fuel text = number_up_to version Bits16 thread_limit text.1 >>= after_threads version fuel text.0
 
+-- the reader of what stands after the bound on the instructions
 abbrev after_fuel : Version → ℕ × List ℕ → Result (Bundled × List ℕ) Fault
 after_fuel version fuel = text_at version fuel.1 >>= after_text version fuel.0
 

@@ -31,6 +31,7 @@ up_step before bound up = ap (λ b. cond b (2 * (before - bound) - 1) (2 * (boun
 pub down_step : (before bound : ℕ) → bound < before → step_between before bound ≡ 2 * (before - bound) - 1
 down_step before bound down = ap (λ b. cond b (2 * (before - bound) - 1) (2 * (bound - before))) (lt-ltb bound before down)
 
+-- the bound to which a step leads, by whether the step is even and whether the way down is within what there is
 abbrev stepping : Bool → Bool → ℕ → ℕ → Option ℕ
 stepping even inside before half = cond even (of_32_bits (before + half)) (cond inside (of_32_bits (before - half - 1)) None)
 
@@ -81,9 +82,11 @@ abbrev pub BoundFits : Version → ℕ → ℕ → Type 0
 BoundFits One before bound = bound ≤ greatest Bits32
 BoundFits Two before bound = (bound ≤ greatest Bits32) × (step_between before bound ≤ greatest Bits64)
 
+-- the text is the bytes of a bound after another one
 abbrev pub IsBound : Version → ℕ → ℕ → List ℕ → Type 0
 IsBound version before bound text = BoundFits version before bound × (text ≡ bound_bytes version before bound)
 
+-- the bound by a step that was read
 abbrev by_step : ℕ → ℕ → List ℕ → List ℕ → Result (ℕ × List ℕ) Fault
 by_step before step bytes rest = stepped (bound_by before step) bytes rest
 

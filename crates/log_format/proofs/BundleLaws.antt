@@ -25,6 +25,7 @@ use Rattle.log_format.proofs.Readers.{chosen, given, failed, ok_is, err_is, ok_f
 
 -- ---- a bundle and the bytes after it
 
+-- the reader of what stands after the magic bytes
 abbrev after_magic : Version × List ℕ → Result (Bundled × List ℕ) Fault
 after_magic version = body_at version.0 version.1
 
@@ -32,6 +33,7 @@ after_magic version = body_at version.0 version.1
 abbrev parts_at : List ℕ → Result (Bundled × List ℕ) Fault
 parts_at bytes = magic_at bytes >>= after_magic
 
+-- the magic bytes, and what stands after them
 abbrev IsParts : Bundled → List ℕ → Type 0
 IsParts = Joined IsMagic IsBody
 

@@ -28,18 +28,21 @@ NumbersFit version before (Write number) = number ≤ greatest Bits32
 NumbersFit version before (Update number old) = (old ≤ greatest Bits64) × (number ≤ greatest Bits32)
 NumbersFit version before (Enter turn) = turn ≤ greatest Bits32
 
+-- the kind of an entry
 abbrev pub kind_for : LogEntry → Kind
 kind_for (Read bound value) = kinds.Read
 kind_for (Write number) = kinds.Write
 kind_for (Update number old) = kinds.Update
 kind_for (Enter turn) = kinds.Enter
 
+-- the bytes of its fields
 abbrev fields_bytes : Version → ℕ → LogEntry → List ℕ
 fields_bytes version before (Read bound value) = number_bytes version Bits64 value ++ bound_bytes version before bound
 fields_bytes version before (Write number) = number_bytes version Bits32 number
 fields_bytes version before (Update number old) = number_bytes version Bits64 old ++ number_bytes version Bits32 number
 fields_bytes version before (Enter turn) = number_bytes version Bits32 turn
 
+-- the text is the fields of an entry of this kind
 abbrev IsFields : Version → ℕ → Kind → LogEntry → List ℕ → Type 0
 IsFields version before kind entry text = (kind_for entry ≡ kind) × NumbersFit version before entry × (text ≡ fields_bytes version before entry)
 
@@ -55,6 +58,7 @@ last_field : {A : Type 0} (Is : A → List ℕ → Type 0) (made : A → LogEntr
 last_field Is made x text is = record { value = x; one = text; two = []; first = is; second = (refl, refl); whole = sym (append-nil text) }
 
 module _ {A : Type 0} (read : List ℕ → Result (A × List ℕ) Fault) (Is : A → List ℕ → Type 0) (made : A → LogEntry) where
+  -- the entry that the last field makes
   abbrev lasting : A × List ℕ → Result (LogEntry × List ℕ) Fault
   lasting x = Ok (made x.0, x.1)
 
@@ -64,22 +68,28 @@ module _ {A : Type 0} (read : List ℕ → Result (A × List ℕ) Fault) (Is : A
   last_begins : Reads read Is → (Part : List ℕ → Type 0) → Begins read Is Part → Begins (λ bytes. read bytes >>= lasting) (LastField Is made) Part
   last_begins reads Part begins = begins_then read lasting Is (λ x. IsDone (made x)) reads Part begins (λ x text is. begins_done (made x) Part) (λ x text is. record { value = made x; text = []; is = (refl, refl) })
 
+-- what stands after the value of a read: its bound
 abbrev AfterValue : Version → ℕ → ℕ → LogEntry → List ℕ → Type 0
 AfterValue version before value = LastField (IsBound version before) (λ bound. Read bound value)
 
+-- what stands after the old value of an update: its number
 abbrev AfterOld : Version → ℕ → LogEntry → List ℕ → Type 0
 AfterOld version old = LastField (IsNumber version Bits32) (λ number. Update number old)
 
+-- the reader of what stands after the value of a read
 abbrev after_value : Version → ℕ → ℕ × List ℕ → Result (LogEntry × List ℕ) Fault
 after_value version before value = bound_at version before value.1 >>= λ bound. Ok (Read bound.0 value.0, bound.1)
 
+-- the reader of what stands after the old value of an update
 abbrev after_old : Version → ℕ × List ℕ → Result (LogEntry × List ℕ) Fault
 after_old version old = number_at version Bits32 old.1 >>= λ number. Ok (Update number.0 old.0, number.1)
 
 module _ (version : Version) (before : ℕ) where
+  -- the fields of a read
   abbrev IsReadFields : LogEntry → List ℕ → Type 0
   IsReadFields = Joined (IsNumber version Bits64) (AfterValue version before)
 
+  -- the fields of an update
   abbrev IsUpdateFields : LogEntry → List ℕ → Type 0
   IsUpdateFields = Joined (IsNumber version Bits64) (AfterOld version)
 
@@ -189,6 +199,7 @@ module _ (version : Version) (before : ℕ) where
 
 -- ---- tags
 
+-- the tag of a kind
 abbrev tag_of : Kind → ℕ
 tag_of kinds.Read = 1
 tag_of kinds.Write = 2
@@ -202,6 +213,7 @@ HasKind version kinds.Write = Unit {0}
 HasKind version kinds.Enter = Unit {0}
 HasKind version kinds.Update = HasUpdates version
 
+-- the text is the tag of a kind that the version has
 abbrev IsKind : Version → Kind → List ℕ → Type 0
 IsKind version kind text = HasKind version kind × (text ≡ tag_of kind ∷ [])
 
@@ -212,9 +224,11 @@ fourth_takes Two kind e = (let same : kind ≡ kinds.Update = cc in same, tt)
 some_is : (x y : Kind) (o : Option Kind) → o ≡ Some x → o ≡ Some y → x ≡ y
 some_is x y o e f = cc
 
+-- the kind of a tag that is neither 1 nor 2
 abbrev past_two : Version → ℕ → Option Kind
 past_two version tag = cond (eqb tag 3) (Some kinds.Enter) (cond (eqb tag 4) (fourth_kind version) None)
 
+-- the kind of a tag that is not 1
 abbrev past_one : Version → ℕ → Option Kind
 past_one version tag = cond (eqb tag 2) (Some kinds.Write) (past_two version tag)
 
@@ -245,6 +259,7 @@ kind_again version kinds.Enter has = refl
 kind_again One kinds.Update has = absurd has
 kind_again Two kinds.Update has = refl
 
+-- the kind by a tag that was read
 abbrev by_tag : Version → ℕ → List ℕ → List ℕ → Result (Kind × List ℕ) Fault
 by_tag version tag bytes rest = known (kind_of version tag) bytes rest
 
@@ -277,9 +292,11 @@ kind_begins version =
 
 -- ---- one entry
 
+-- the version has entries of its kind, and its numbers fit
 abbrev pub EntryFits : Version → ℕ → LogEntry → Type 0
 EntryFits version before entry = HasKind version (kind_for entry) × NumbersFit version before entry
 
+-- the text is the bytes of an entry that fits
 abbrev pub IsEntry : Version → ℕ → LogEntry → List ℕ → Type 0
 IsEntry version before entry text = EntryFits version before entry × (text ≡ entry_bytes version before entry)
 
@@ -305,6 +322,7 @@ from_entry version before entry text is = record {
   whole = is.1 ∙ sym (entry_is version before entry);
 }
 
+-- the reader of the fields after a tag
 abbrev next_fields : Version → ℕ → Kind × List ℕ → Result (LogEntry × List ℕ) Fault
 next_fields version before kind = fields_at version before kind.0 kind.1
 

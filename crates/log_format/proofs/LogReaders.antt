@@ -21,16 +21,20 @@ use Rattle.log_format.proofs.EntryReaders.{EntryFits, IsEntry, NumbersFit, entry
 
 -- ---- the entries of a log
 
+-- each entry fits after those before it
 abbrev EntriesFit : Version → ℕ → List LogEntry → Type 0
 EntriesFit version before [] = Unit {0}
 EntriesFit version before (entry ∷ entries) = EntryFits version before entry × EntriesFit version (bound_after before entry) entries
 
+-- the text is the bytes of so many entries that fit
 abbrev IsEntries : Version → ℕ → ℕ → List LogEntry → List ℕ → Type 0
 IsEntries version before n entries text = (length entries ≡ n) × EntriesFit version before entries × (text ≡ entries_bytes version before entries)
 
+-- what stands after the first entry: the others
 abbrev NextEntries : Version → ℕ → ℕ → LogEntry → List LogEntry → List ℕ → Type 0
 NextEntries version before n first = Joined (IsEntries version (bound_after before first) n) (λ others. IsDone (first ∷ others))
 
+-- the reader of the others
 abbrev next_entries : Version → ℕ → ℕ → LogEntry × List ℕ → Result (List LogEntry × List ℕ) Fault
 next_entries version before n first = entries_at version (bound_after before first.0) n first.1 >>= λ others. Ok (first.0 ∷ others.0, others.1)
 
@@ -141,9 +145,11 @@ their_numbers_fit version before (entry ∷ entries) low are =
 
 -- ---- the log of a thread
 
+-- a log has no more entries than the fuel, and each is one of the version
 abbrev pub LogFits : Version → ℕ → List LogEntry → Type 0
 LogFits version fuel log = (length log ≤ fuel) × (length log ≤ greatest Bits32) × AllByRecursion (IsEntryOf version) log
 
+-- the text is the bytes of a log that fits
 abbrev IsLog : Version → ℕ → List LogEntry → List ℕ → Type 0
 IsLog version fuel log text = LogFits version fuel log × (text ≡ log_bytes version log)
 
@@ -164,6 +170,7 @@ from_log version fuel log text is = record {
   whole = is.1;
 }
 
+-- the reader of the entries after their number
 abbrev counted_entries : Version → ℕ × List ℕ → Result (List LogEntry × List ℕ) Fault
 counted_entries version count = entries_at version 0 count.0 count.1
 
@@ -182,12 +189,15 @@ log_begins version fuel =
 
 -- ---- the logs of the threads
 
+-- the text is the bytes of so many logs that fit
 abbrev pub IsLogs : Version → ℕ → ℕ → List (List LogEntry) → List ℕ → Type 0
 IsLogs version fuel n logs text = (length logs ≡ n) × AllByRecursion (LogFits version fuel) logs × (text ≡ flat_map (log_bytes version) logs)
 
+-- what stands after the first log: the others
 abbrev NextLogs : Version → ℕ → ℕ → List LogEntry → List (List LogEntry) → List ℕ → Type 0
 NextLogs version fuel n first = Joined (IsLogs version fuel n) (λ others. IsDone (first ∷ others))
 
+-- the reader of the others
 abbrev next_logs : Version → ℕ → ℕ → List LogEntry × List ℕ → Result (List (List LogEntry) × List ℕ) Fault
 next_logs version fuel n first = logs_at version fuel n first.1 >>= λ others. Ok (first.0 ∷ others.0, others.1)
 
