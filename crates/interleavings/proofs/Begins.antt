@@ -28,6 +28,7 @@ first_words n starts (Value cell) = if nat_lt cell n then slice_index starts cel
 first_words n starts (Number cell) = 0
 first_words n starts (Monitor monitor) = 0
 
+-- the step by which a thread draws its name
 abbrev draw : ℕ → Step
 draw who = record { who = who; kind = by.Draw; at = 0; value = 0 }
 
@@ -78,6 +79,7 @@ started_states : (p : Listing) (fuel : ℕ) (ns : List ℕ) → map (λ t. settl
 started_states p fuel [] = refl
 started_states p fuel (t ∷ ns) = ap (λ rest. settled p fuel t start_thread ∷ rest) (started_states p fuel ns)
 
+-- what is fixed of a run
 abbrev setting : Listing → ℕ → ℕ → Setting
 setting p fuel patience = record { program = p; fuel = fuel; patience = patience }
 

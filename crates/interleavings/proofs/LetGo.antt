@@ -5,6 +5,7 @@ use Rattle.std.proofs.lemmas.List.{take_more}
 use Rattle.std.proofs.lemmas.List.Elements.{filter-append}
 use Rattle.interleavings.specs.declared.activity.HeldTurn.{HeldTurn}
 
+-- the turns of the other monitors
 abbrev others : ℕ → List HeldTurn → List HeldTurn
 others mon held = filter (λ h. not (h.mon == mon)) held
 

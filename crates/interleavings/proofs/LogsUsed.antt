@@ -160,9 +160,11 @@ none_left front (entry ∷ rest) e = absurd (some_none (sym (entry_at_seam front
     some_none : Some entry ≡ None → ⊥
     some_none e = cc
 
+-- that a thread was followed
 abbrev pub ok : Followed → Result Followed ℕ
 ok f = Ok f
 
+-- that it parts from its log at this place
 abbrev pub parted : ℕ → Result Followed ℕ
 parted place = Err place
 

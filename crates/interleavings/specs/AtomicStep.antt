@@ -169,6 +169,7 @@ abbrev pub turn_or_zero : Option ℕ → ℕ
 turn_or_zero (Some turn) = turn
 turn_or_zero None = 0
 
+-- whether a word is even
 abbrev pub is_even : ℕ → Bool
 is_even word = word % 2 == 0
 

@@ -19,12 +19,13 @@ use Rattle.log_format.specs.Laws.{IsSpelled, IsBegun, IsUnfinished, TellsWrong, 
 use Rattle.log_format.specs.Reading.{◌>>=◌, Refusal, short, fault, magic_at, body_at, bundle_at, placed, reading}
 use Rattle.log_format.specs.Spelling.{body_bytes, digit, magic, spelling}
 use Rattle.log_format.proofs.Bytes.{IsBytes-after}
-use Rattle.log_format.proofs.EntryReaders.{IsBody, a_body, body_begins, body_reads}
+use Rattle.log_format.proofs.BodyReaders.{IsBody, a_body, body_begins, body_reads}
 use Rattle.log_format.proofs.NumberReaders.{IsMagic, magic_begins, magic_reads, none_unfinished, not_empty}
 use Rattle.log_format.proofs.Readers.{chosen, given, failed, ok_is, err_is, ok_fails, moved, IsWrong, Joined, Reads, reads_then}
 
 -- ---- a bundle and the bytes after it
 
+-- the reader of what stands after the magic bytes
 abbrev after_magic : Version × List ℕ → Result (Bundled × List ℕ) Fault
 after_magic version = body_at version.0 version.1
 
@@ -32,6 +33,7 @@ after_magic version = body_at version.0 version.1
 abbrev parts_at : List ℕ → Result (Bundled × List ℕ) Fault
 parts_at bytes = magic_at bytes >>= after_magic
 
+-- the magic bytes, and what stands after them
 abbrev IsParts : Bundled → List ℕ → Type 0
 IsParts = Joined IsMagic IsBody
 

@@ -1,8 +1,11 @@
 pub mod BigNumbers
+pub mod BodyReaders
+pub mod BoundReaders
 pub mod BundleLaws
 pub mod Bytes
 pub mod EntryReaders
 pub mod Groups
+pub mod LogReaders
 pub mod Loops
 pub mod NumberReaders
 pub mod Readers

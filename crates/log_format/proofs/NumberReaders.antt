@@ -30,6 +30,7 @@ abbrev pub IsLimited : (ℕ → List ℕ → Type 0) → ℕ → ℕ → List �
 IsLimited Is limit n text = Is n text × (n ≤ limit)
 
 module _ (limit : ℕ) (read : List ℕ → Result (ℕ × List ℕ) Fault) (Is : ℕ → List ℕ → Type 0) where
+  -- the number where it is within the limit
   abbrev within : ℕ → List ℕ → List ℕ → Result (ℕ × List ℕ) Fault
   within n bytes rest = refusing BadCount (ltb limit n) n bytes rest
 
@@ -128,9 +129,11 @@ up_to_begins version size limit =
 
 -- ---- the bound on the instructions
 
+-- the text is the bytes of a bound on the instructions
 abbrev pub IsFuel : Version → ℕ → List ℕ → Type 0
 IsFuel version n text = (1 ≤ n) × (n ≤ fuel_limit) × (text ≡ number_bytes version Bits32 n)
 
+-- the bound where it is not 0
 abbrev some_fuel : ℕ → List ℕ → List ℕ → Result (ℕ × List ℕ) Fault
 some_fuel n bytes rest = refusing BadCount (eqb n 0) n bytes rest
 
@@ -170,6 +173,7 @@ fuel_begins version =
 
 -- ---- the text
 
+-- the text is so many bytes
 abbrev IsPiece : ℕ → List ℕ → List ℕ → Type 0
 IsPiece n x text = (length x ≡ n) × IsBytes x × (text ≡ x)
 
@@ -205,6 +209,7 @@ bytes_begin version n bytes fits e =
       some = omega (arith, length-replicate {A = ℕ} (n - length bytes) 0);
     }
 
+-- the text is the length of a text, and the text itself
 abbrev pub IsText : Version → List ℕ → List ℕ → Type 0
 IsText version x text = (length x ≤ greatest Bits32) × IsBytes x × (text ≡ text_bytes version x)
 
@@ -218,6 +223,7 @@ to_text version x text j = (
 from_text : (version : Version) (x text : List ℕ) → IsText version x text → Joined (IsNumber version Bits32) IsPiece x text
 from_text version x text is = record { value = length x; one = number_bytes version Bits32 (length x); two = x; first = (is.0, refl); second = (refl, is.1, refl); whole = is.2 }
 
+-- the reader of the bytes after their number
 abbrev next_bytes : ℕ × List ℕ → Result (List ℕ × List ℕ) Fault
 next_bytes n = bytes_at n.0 n.1
 
@@ -269,6 +275,7 @@ byte_unfinished Part none bytes fits e = subst Part (sym (byte_short bytes short
 
 -- ---- the magic bytes
 
+-- the text is the wanted letters
 abbrev pub IsLetters : List ℕ → Unit {0} → List ℕ → Type 0
 IsLetters wanted x text = text ≡ wanted
 
@@ -284,6 +291,7 @@ kept : {A : Type 0} (b : Bool) (x : A) → ((bytes rest : List ℕ) → keeping 
 kept true x = inr (x, λ bytes rest. refl)
 kept false x = inl (λ bytes rest. refl)
 
+-- a byte that is the wanted letter, or is refused
 abbrev wanted_letter : ℕ → ℕ → List ℕ → List ℕ → Result (Unit {0} × List ℕ) Fault
 wanted_letter want byte bytes rest = keeping (eqb byte want) tt bytes rest
 
@@ -304,6 +312,7 @@ letter_begins want =
     begins_as_number (letter_at want) (IsLetters (want ∷ [])) IsNothing (record { value = tt; text = want ∷ []; is = refl }) (omega arith)
     (unfinished_judged byte_at (wanted_letter want) IsByte BadMagic tt (λ byte. kept (eqb byte want) tt) IsNothing (byte_unfinished IsNothing refl))
 
+-- the reader of the letters after the first
 abbrev next_letters : List ℕ → Unit {0} × List ℕ → Result (Unit {0} × List ℕ) Fault
 next_letters wanted first = letters_at wanted first.1
 
@@ -327,12 +336,15 @@ letters_begin (want ∷ wanted) =
     begins_as (letters_at (want ∷ wanted)) (Joined (IsLetters (want ∷ [])) (λ first. IsLetters wanted)) (IsLetters (want ∷ wanted)) (to_letters want wanted) IsNothing
     (begins_then (letter_at want) (next_letters wanted) (IsLetters (want ∷ [])) (λ first. IsLetters wanted) (letter_reads want) IsNothing (letter_begins want) (λ first text is. letters_begin wanted) (λ first text is. record { value = tt; text = wanted; is = refl }))
 
+-- the text is the digit of the version
 abbrev IsDigit : Version → List ℕ → Type 0
 IsDigit version text = text ≡ digit version ∷ []
 
+-- the version by which digit it is
 abbrev of_digit : Bool → Bool → List ℕ → List ℕ → Result (Version × List ℕ) Fault
 of_digit one two bytes rest = cond one (Ok (One, rest)) (cond two (Ok (Two, rest)) (Err (fault BadMagic bytes)))
 
+-- the version by a digit that was read
 abbrev known_version : ℕ → List ℕ → List ℕ → Result (Version × List ℕ) Fault
 known_version byte bytes rest = of_digit (eqb byte 49) (eqb byte 50) bytes rest
 
@@ -367,18 +379,23 @@ version_begins =
     begins_as_number version_at IsDigit IsNothing (record { value = One; text = 49 ∷ []; is = refl }) (omega arith)
     (unfinished_judged byte_at known_version IsByte BadMagic tt version_verdict IsNothing (byte_unfinished IsNothing refl))
 
+-- the text is the magic bytes of the version
 abbrev pub IsMagic : Version → List ℕ → Type 0
 IsMagic version text = text ≡ magic version
 
+-- what stands after the digit of the version: a line feed
 abbrev AfterVersion : Version → Version → List ℕ → Type 0
 AfterVersion version = Joined (IsLetters (10 ∷ [])) (λ line_feed. IsDone version)
 
+-- what stands after the letters: the digit, and the line feed
 abbrev AfterLetters : Unit {0} → Version → List ℕ → Type 0
 AfterLetters letters = Joined IsDigit AfterVersion
 
+-- the reader of the line feed
 abbrev to_line_feed : Version × List ℕ → Result (Version × List ℕ) Fault
 to_line_feed version = letters_at (10 ∷ []) version.1 >>= λ line_feed. Ok (version.0, line_feed.1)
 
+-- the reader of the digit, and of the line feed
 abbrev to_digit : Unit {0} × List ℕ → Result (Version × List ℕ) Fault
 to_digit letters = version_at letters.1 >>= to_line_feed
 

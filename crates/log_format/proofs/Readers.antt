@@ -29,9 +29,11 @@ pub chosen : {A : Type 0} (b : Bool) (x y z : A) → cond b x y ≡ z → ((b �
 chosen true x y z e = inl (refl, e)
 chosen false x y z e = inr (refl, e)
 
+-- a refusal, as what comes of reading
 abbrev pub failed : {X : Type 0} → Fault → Result X Fault
 failed wrong = Err wrong
 
+-- a value, as what comes of reading
 abbrev pub given : {X : Type 0} → X → Result X Fault
 given x = Ok x
 
@@ -179,9 +181,11 @@ pub record Joined {A B : Type 0} (IsA : A → List ℕ → Type 0) (IsB : A → 
   pub whole : text ≡ one ++ two
 
 module _ {A B : Type 0} (read : List ℕ → Result (A × List ℕ) Fault) (next : A × List ℕ → Result (B × List ℕ) Fault) (IsA : A → List ℕ → Type 0) (IsB : A → B → List ℕ → Type 0) (first : Reads read IsA) where
+  -- one reader, and then another by what it read
   abbrev both : List ℕ → Result (B × List ℕ) Fault
   both bytes = read bytes >>= next
 
+  -- what comes of the other reader after this
   abbrev then : Result (A × List ℕ) Fault → Result (B × List ℕ) Fault
   then r = r >>= next
 
@@ -291,6 +295,7 @@ tested kind true x = inl (λ bytes rest. refl)
 tested kind false x = inr (x, λ bytes rest. refl)
 
 module _ {A B : Type 0} (read : List ℕ → Result (A × List ℕ) Fault) (judge : A → List ℕ → List ℕ → Result (B × List ℕ) Fault) (Is : A → List ℕ → Type 0) (kind : FormatKind) (tells : TellsWrong kind) (verdict : (x : A) → Verdict kind judge x) where
+  -- a reader whose value is judged
   abbrev judging : List ℕ → Result (B × List ℕ) Fault
   judging bytes = read bytes >>= λ x. judge x.0 bytes x.1
 

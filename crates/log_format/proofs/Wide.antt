@@ -18,6 +18,7 @@ use Rattle.log_format.proofs.Readers.{chosen, guard_ok, failed, given, ok_is, er
 
 -- ---- so many bytes, seen as something
 
+-- so many bytes, viewed as a value
 abbrev pub piece : {A : Type 0} → ℕ → (List ℕ → A) → List ℕ → Result (A × List ℕ) Fault
 piece n view bytes = cond (ltb (length bytes) n) (Err short) (Ok (view (take n bytes), drop n bytes))
 

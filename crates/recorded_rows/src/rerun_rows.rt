@@ -69,15 +69,13 @@ fn run_again(
 
 /// Whether one thread made so many events, printed this and ended so.
 fn is_one(rerun: &Rerun, events: u32, output: &[u8], end: End) -> bool {
-    match (rerun.outputs.as_slice(), rerun.ends.as_slice()) {
-        ([only], [last]) => {
-            rerun.traces.threads() == 1
-                && rerun.traces.count(0) == events
-                && only.as_slice() == output
-                && *last == end
-        }
-        _ => false,
-    }
+    let ([only], [last]) = (rerun.outputs.as_slice(), rerun.ends.as_slice()) else {
+        return false;
+    };
+    rerun.traces.threads() == 1
+        && rerun.traces.count(0) == events
+        && only.as_slice() == output
+        && *last == end
 }
 
 #[test]

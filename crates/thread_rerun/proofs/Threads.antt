@@ -29,6 +29,7 @@ before_more : (t : ℕ) (done : List Followed) (f : Followed) (r : Result (List 
 before_more t done f (Ok others) = ap Ok (sym (append_assoc done (f ∷ []) others))
 before_more t done f (Err divergence) = refl
 
+-- the events of a thread that was followed
 abbrev events_in : Followed → List Event
 events_in f = f.events
 

@@ -10,8 +10,8 @@ use crate::thread_following::follow_log;
 use interleavings::{LogEntry, Traces};
 use std::alloc::Global;
 use stride_base::List;
-use stride_isa::{Checked, each_cell_starts};
 use stride_isa::limits::FUEL_LIMIT;
+use stride_isa::{Checked, each_cell_starts};
 
 // The log of a thread, if it is there.
 fn log_of(logs: &List<List<LogEntry>>, thread: u32) -> Option<&[LogEntry]>
