@@ -1,5 +1,5 @@
 -- What an instruction comes to: the only lemmas that name instructions.
-use Rattle.std.proofs.Common.{◌++◌, ◌==◌, ◌⊎◌, inl, inr, ◌≡◌, ℕ, ◌+◌, ◌≤◌, List, [], ◌∷◌, Bool, true, false, cond, Option, Some, None, length, refl, subst, arith}
+use Rattle.std.proofs.Common.{◌++◌, ◌==◌, ◌⊎◌, inl, inr, ◌≡◌, ℕ, ◌+◌, ◌≤◌, List, [], ◌∷◌, Bool, true, false, cond, Option, Some, None, length, refl, arith}
 use Rattle.std.proofs.lemmas.Bool.{cond_both}
 use Rattle.std.specs.Fmt.{decimal}
 use Rattle.stride_isa.specs.Instructions.{kind, popped}
@@ -10,7 +10,7 @@ use Rattle.stride_isa.specs.declared.op.Op.TheVariants as ops
 use Rattle.sc_machine.specs.declared.instruction.Next.TheVariants as nexts
 use Rattle.sc_machine.specs.declared.stop.Stop.{Stop}
 use Rattle.sc_machine.specs.ThreadRun.{IsShared}
-use Rattle.sc_machine.specs.ThreadStep.{Row, Stands, divided, member_cell, on_member, holds, row, printed_by, stop_in, done_stack}
+use Rattle.sc_machine.specs.ThreadStep.{Row, divided, member_cell, on_member, holds, row, printed_by, stop_in, done_stack}
 use Rattle.sc_machine.specs.Made.{next_of, stack_after}
 
 -- by this the thread does not go on to another position
@@ -134,43 +134,3 @@ row_prints p ops.Print pc (word ∷ below) locals held = inr (word, refl)
 row_prints p op pc [] locals held = inl refl
 row_prints p op pc (a ∷ []) locals held = inl refl
 row_prints p op pc (b ∷ a ∷ below) locals held = inl refl
-
--- a row at which the thread stands names a shared instruction
-abbrev StandsShared : Row → Type 0
-StandsShared r = (stop : Stop) → r ≡ Stands stop → IsShared stop
-
-divided_stands : (b word pc : ℕ) (below locals : List ℕ) → StandsShared (divided b word pc below locals)
-divided_stands b word pc below locals = cond_both (b == 0) _ _ StandsShared (λ e stop is. cc) (λ e stop is. cc)
-
-shared_is : (shared other : Stop) → IsShared shared → Stands shared ≡ Stands other → IsShared other
-shared_is shared other here is = let e : shared ≡ other = cc in subst IsShared e here
-
-on_member_stands : (cell : Option ℕ) (pc : ℕ) (stop : ℕ → Stop) → ((n : ℕ) → IsShared (stop n)) → StandsShared (on_member cell pc stop)
-on_member_stands None pc stop shared = λ other is. cc
-on_member_stands (Some cell) pc stop shared = λ other is. shared_is (stop cell) other (shared cell) is
-
-pub row_stands : (p : Listing) (op : Op) (pc : ℕ) (stack locals : List ℕ) (held : List Bool) → StandsShared (row p op pc stack locals held)
-row_stands p ops.Div pc (b ∷ []) locals held = divided_stands b _ pc [] locals
-row_stands p ops.Div pc (b ∷ a ∷ below) locals held = divided_stands b _ pc below locals
-row_stands p ops.Rem pc (b ∷ []) locals held = divided_stands b _ pc [] locals
-row_stands p ops.Rem pc (b ∷ a ∷ below) locals held = divided_stands b _ pc below locals
-row_stands p (ops.Read decl) pc stack locals held = λ stop is. shared_is _ stop tt is
-row_stands p (ops.Write decl) pc [] locals held = λ stop is. shared_is _ stop tt is
-row_stands p (ops.Write decl) pc (word ∷ below) locals held = λ stop is. shared_is _ stop tt is
-row_stands p (ops.ReadAt decl) pc [] locals held = on_member_stands (member_cell p decl 0) pc _ (λ n. tt)
-row_stands p (ops.ReadAt decl) pc (index ∷ below) locals held = on_member_stands (member_cell p decl index) pc _ (λ n. tt)
-row_stands p (ops.WriteAt decl) pc [] locals held = on_member_stands (member_cell p decl 0) pc _ (λ n. tt)
-row_stands p (ops.WriteAt decl) pc (index ∷ []) locals held = on_member_stands (member_cell p decl index) pc _ (λ n. tt)
-row_stands p (ops.WriteAt decl) pc (index ∷ word ∷ below) locals held = on_member_stands (member_cell p decl index) pc _ (λ n. tt)
-row_stands p (ops.Xchg decl) pc [] locals held = λ stop is. shared_is _ stop tt is
-row_stands p (ops.Xchg decl) pc (word ∷ below) locals held = λ stop is. shared_is _ stop tt is
-row_stands p (ops.AddTo decl) pc [] locals held = λ stop is. shared_is _ stop tt is
-row_stands p (ops.AddTo decl) pc (word ∷ below) locals held = λ stop is. shared_is _ stop tt is
-row_stands p (ops.Cas decl) pc [] locals held = λ stop is. shared_is _ stop tt is
-row_stands p (ops.Cas decl) pc (new ∷ []) locals held = λ stop is. shared_is _ stop tt is
-row_stands p (ops.Cas decl) pc (new ∷ expected ∷ below) locals held = λ stop is. shared_is _ stop tt is
-row_stands p (ops.Enter monitor) pc stack locals held = cond_both (holds held monitor) _ _ StandsShared (λ e stop is. cc) (λ e stop is. shared_is _ stop tt is)
-row_stands p (ops.Exit monitor) pc stack locals held = cond_both (holds held monitor) _ _ StandsShared (λ e stop is. shared_is _ stop tt is) (λ e stop is. cc)
-row_stands p op pc [] locals held = λ stop is. cc
-row_stands p op pc (a ∷ []) locals held = λ stop is. cc
-row_stands p op pc (b ∷ a ∷ below) locals held = λ stop is. cc

@@ -225,7 +225,7 @@ macro_rules! arms {
     };
 }
 
-// Where a thread stands at an instruction: a shared one that does not trap.
+// Where a thread stands at an instruction: at a shared one that does not trap, and at no local one.
 macro_rules! stop_told {
     (stands Read ($program:ident $words:ident $top:ident $held:ident) $decl:ident) => {
         Stop::Read {
@@ -453,7 +453,7 @@ fn end_of_halt(held: &[bool], pc: u32) -> End
     }
 }
 
-// What is told as the stop of a thread that stands nowhere.
+// What is told where a thread stands at no shared instruction.
 fn no_stop() -> Stop
     ensures { result ≡ Ended Halted }
 {
@@ -508,7 +508,7 @@ pub fn execute(
     instructions!(arms!((program pc words top locals held out) op))
 }
 
-/// The shared instruction at which the thread stands. At an instruction that is local or traps it stands nowhere.
+/// Where the thread stands at this instruction. One that is local or traps reads as if the thread had halted.
 #[inline(always)]
 pub fn stop_of(
     op: &Op,

@@ -113,7 +113,7 @@ impl<'p> ThreadRun<'p> {
         }
     }
 
-    /// Where the thread stands once it has settled.
+    /// Where the thread stands. One that has not settled reads as if it had halted.
     #[inline(always)]
     pub(crate) fn stop(&self) -> Stop
         ensures stop { result ≡ stop_at self.now }
