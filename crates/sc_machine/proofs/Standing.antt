@@ -5,12 +5,9 @@ use Rattle.sc_machine.specs.declared.end.End.{End}
 use Rattle.sc_machine.specs.declared.stop.Stop.{Stop}
 use Rattle.sc_machine.specs.declared.stop.Stop.TheVariants.{Ended}
 use Rattle.sc_machine.specs.ThreadStep.{Thread, Row, Goes, Ends, Stands, row, now_unless, now, moved, local_step, local_steps, settled, stop_in, stop_of, answered}
+use Rattle.sc_machine.specs.Laws.{HasFuel}
 use Rattle.sc_machine.proofs.Inside.{fuel_left}
 use Rattle.sc_machine.proofs.Steps.{local_steps-standing}
-
--- a thread has fuel left where it has not ended
-abbrev pub HasFuel : ℕ → Thread → Type 0
-HasFuel fuel s = s.ended ≡ None → s.made < fuel
 
 pub moved-has_fuel : (fuel : ℕ) (r : Row) (s : Thread) → HasFuel fuel s → HasFuel fuel (moved fuel r s)
 moved-has_fuel fuel (Goes pc stack locals printed) s h = λ e. fuel_left fuel (s.made + 1) e

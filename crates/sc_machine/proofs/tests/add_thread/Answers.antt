@@ -1,7 +1,12 @@
-use Rattle.std.proofs.Common.{length, ap, arith}
-use Rattle.stride_isa.specs.Listing.{Listing}
-use Rattle.stride_isa.proofs.KeptLemmas.{length_last}
+use Rattle.std.proofs.Common.{◌≡◌, suc, List, [], ◌∷◌, length, refl, ap, arith}
+use Rattle.stride_isa.specs.Listing.{Listing, push_last}
 use Rattle.sc_machine.proofs.tests.add_thread.Goals as goal
+
+-- one more item in the last list of a row leaves as many lists
+length_last : {X : Type 0} (lists : List (List X)) (x : X) → length (push_last lists x) ≡ length lists
+length_last [] x = refl
+length_last (list ∷ []) x = refl
+length_last (list ∷ next ∷ rest) x = ap suc (length_last (next ∷ rest) x)
 
 pub loop-op-preserved : goal.loop-op-preserved
 loop-op-preserved c =
