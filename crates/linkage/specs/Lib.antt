@@ -1,0 +1,5 @@
+pub mod Answers
+pub mod Laws
+pub mod Links
+pub mod Refusals
+pub mod Sources
