@@ -1,10 +1,10 @@
 -- The definitions on small traces.
-use Rattle.std.proofs.Common.{◌≡◌, ℕ, zero, suc, ◌+◌, ◌<◌, ◌≤◌, List, [], ◌∷◌, refl, arith}
-use Rattle.std.specs.Prelude.{Option, Some, None, slice_get}
-use Rattle.interleavings.specs.declared.event.Event.TheVariants.{Read, Write, Update, Enter, Exit}
+use Rattle.std.proofs.Common.{◌≡◌, ℕ, zero, suc, ◌<◌, [], ◌∷◌, refl, arith}
+use Rattle.std.specs.Prelude.{Option, Some, None}
+use Rattle.interleavings.specs.declared.event.Event.TheVariants.{Read, Write, Update, Enter}
 use Rattle.interleavings.specs.declared.traces.Place.{Place}
 use Rattle.interleavings.specs.TraceLists.{TraceLists}
-use Rattle.linkage.specs.declared.link_error.LinkError.TheVariants.{TwiceWritten, WriteGap, TwiceTurned, TurnGap, BoundTooLarge, NoEqualWrite, UpdateMismatch}
+use Rattle.linkage.specs.declared.link_error.LinkError.TheVariants.{TwiceWritten, TwiceTurned, TurnGap, BoundTooLarge}
 use Rattle.linkage.specs.Sources.{event_at, event_count, IsWriteAt, Stored, IsExitAt, IsReadAt, IsUpdateAt}
 use Rattle.linkage.specs.Links.{IsLink}
 use Rattle.linkage.specs.Refusals.{IsRefused, rank_of}

@@ -1,2 +1,4 @@
 mod Examples
+pub mod Halving
 pub mod Parts
+pub mod Unique

@@ -1,6 +1,6 @@
 -- Equal writes, reads and turns have equal parts.
-use Rattle.std.proofs.Common.{◌≡◌, ℕ, ap}
-use Rattle.std.specs.Prelude.{Option, Some}
+use Rattle.std.proofs.Common.{◌≡◌, ap}
+use Rattle.std.specs.Prelude.{Some}
 use Rattle.interleavings.specs.Events.{WriteOf, ReadOf, TurnOf}
 
 pub same_write : (a b : WriteOf) → Some a ≡ Some b → (a.cell ≡ b.cell) × (a.number ≡ b.number) × (a.value ≡ b.value)

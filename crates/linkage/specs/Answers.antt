@@ -1,5 +1,5 @@
 -- What the answers of this crate's calls say.
-use Rattle.std.specs.Prelude.{◌≡◌, ℕ, ◌≤◌, List, Option, Some, None, Result, Ok, Err, Contains}
+use Rattle.std.specs.Prelude.{ℕ, ◌≤◌, List, Option, Some, None, Result, Ok, Err, Contains}
 use Rattle.stride_base.specs.Ascending.{Triple}
 use Rattle.interleavings.specs.TraceLists.{TraceLists}
 use Rattle.linkage.specs.declared.link_error.LinkError.{LinkError}

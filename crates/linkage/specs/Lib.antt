@@ -1,5 +1,6 @@
 pub mod Answers
 pub mod Laws
 pub mod Links
+pub mod Looking
 pub mod Refusals
 pub mod Sources

@@ -1,5 +1,5 @@
 -- Where the writes of a cell and the turns of a monitor come from, and what the event at a place reads.
-use Rattle.std.specs.Prelude.{◌≡◌, ℕ, ◌+◌, ◌<◌, List, Option, Some, None, length, slice_get, sum_by}
+use Rattle.std.specs.Prelude.{◌≡◌, ℕ, ◌<◌, Option, Some, None, length, slice_get, sum_by}
 use Rattle.std.specs.Option.{option_and_then}
 use Rattle.interleavings.specs.declared.event.Event.{Event}
 use Rattle.interleavings.specs.declared.traces.Place.{Place}
