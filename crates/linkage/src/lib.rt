@@ -6,11 +6,13 @@
 //! a number of looks that grows with the number of events.
 #![tactic(auto)]
 
+mod gaps;
 mod latest_write;
 mod laws;
 mod link_error;
 mod linking;
 mod links;
+mod numbered;
 
 pub use latest_write::latest;
 pub use laws::{one_first_refusal, one_link, one_linking};
