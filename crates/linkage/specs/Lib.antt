@@ -1,4 +1,6 @@
+pub mod AllOf
 pub mod Answers
+pub mod GatherShows
 pub mod Laws
 pub mod Links
 pub mod Looking

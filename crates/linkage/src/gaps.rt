@@ -5,6 +5,7 @@ ghost use Rattle.linkage.specs.Numbers.{AreGreatest, AreOwned, AreStarted, IsFir
 use crate::numbered::Numbered;
 use std::alloc::Global;
 use stride_base::NoMemory;
+use stride_isa::limits::CELL_LIMIT;
 
 fn zeros(alloc: Global, count: u32) -> Result<Vec<u32>, NoMemory>
     ensures { IfOk result (λ numbers. numbers.items ≡ replicate count 0) }
@@ -18,7 +19,7 @@ pub(crate) fn greatest_numbers<V: Copy>(
     items: &[Numbered<V>],
     owners: u32,
 ) -> Result<Vec<u32>, NoMemory>
-    requires few { owners ≤ 256 }
+    requires few { owners ≤ CELL_LIMIT }
     requires owned { AreOwned items.now owners }
     requires started { AreStarted items.now owners }
     ensures { IfOk result (λ greatest. AreGreatest items.now owners greatest.items) }
@@ -53,7 +54,7 @@ fn item_at<V: Copy>(items: &[Numbered<V>], i: usize) -> Option<Numbered<V>>
 
 /// The least owner and number that no item has, of the numbers below the greatest of their owner.
 pub(crate) fn first_gap<V: Copy>(items: &[Numbered<V>], greatest: &[u32]) -> Option<(u32, u32)>
-    requires few { length greatest.now ≤ 256 }
+    requires few { length greatest.now ≤ CELL_LIMIT }
     requires ordered { IsOrdered items.now }
     requires owned { AreOwned items.now (length greatest.now) }
     requires started { AreStarted items.now (length greatest.now) }

@@ -7,6 +7,7 @@
 #![tactic(auto)]
 
 mod gaps;
+mod gathered;
 mod latest_write;
 mod laws;
 mod link_error;
