@@ -104,25 +104,25 @@ module _ {V : Type 0} where
           let b : Numbered V = record { owner = o; number = n; value = t.at_other.0 } in
           elim (get_pushed items x b t.other t.at_other.1) [
             | inl both ↦
-              elim (get_pushed items x a t.one t.at_one.1) [
-                | inl was ↦ keep_given o n (all.twice o n (record { one = t.one; other = t.other; apart = t.apart; at_one = (t.at_one.0, was); at_other = (t.at_other.0, both) }))
-                | inr one ↦ absurd (let inside = slice_get_within items t.other b both in omega (arith, t.apart, one.0))
-              ]
+                elim (get_pushed items x a t.one t.at_one.1) [
+                  | inl was ↦ keep_given o n (all.twice o n (record { one = t.one; other = t.other; apart = t.apart; at_one = (t.at_one.0, was); at_other = (t.at_other.0, both) }))
+                  | inr one ↦ absurd (let inside = slice_get_within items t.other b both in omega (arith, t.apart, one.0))
+                ]
             | inr last ↦
-              elim (get_pushed items x a t.one t.at_one.1) [
-                | inl was ↦ (
-                    let s = all.sound t.one a was in
-                    record {
-                      one = s.0;
-                      other = new;
-                      differ = λ same. fresh a (subst (λ (source : Option Place). given source a) same s.1) (ap (λ (item : Numbered V). item.owner) last.1);
-                      one_value = t.at_one.0;
-                      one_gives = old s.0 a s.1;
-                      other_value = t.at_other.0;
-                      other_gives = subst (given' new) (sym last.1) here;
-                    })
-                | inr one ↦ absurd (omega (arith, t.apart, one.0, last.0))
-              ]
+                elim (get_pushed items x a t.one t.at_one.1) [
+                  | inl was ↦ (
+                      let s = all.sound t.one a was in
+                      record {
+                        one = s.0;
+                        other = new;
+                        differ = λ same. fresh a (subst (λ (source : Option Place). given source a) same s.1) (ap (λ (item : Numbered V). item.owner) last.1);
+                        one_value = t.at_one.0;
+                        one_gives = old s.0 a s.1;
+                        other_value = t.at_other.0;
+                        other_gives = subst (given' new) (sym last.1) here;
+                      })
+                  | inr one ↦ absurd (omega (arith, t.apart, one.0, last.0))
+                ]
           ]
 
       at_end : (o n i : ℕ) (a : Numbered V) → (o ≡ a.owner) × (n ≡ a.number) → slice_get items i ≡ Some a → (o ≡ x.owner) × (n ≡ x.number) → IsTwice (items ++ x ∷ []) o n
@@ -141,15 +141,15 @@ module _ {V : Type 0} where
           let key : (c : Numbered V) → c ≡ x → (c.owner ≡ x.owner) × (c.number ≡ x.number) = λ c e. (ap (λ (item : Numbered V). item.owner) e, ap (λ (item : Numbered V). item.number) e) in
           elim (news t.one a t.one_gives) [
             | inl was ↦
-              elim (news t.other b t.other_gives) [
-                | inl both ↦ keep_twice items x o n (all.once o n (record { one = t.one; other = t.other; differ = t.differ; one_value = t.one_value; one_gives = was; other_value = t.other_value; other_gives = both }))
-                | inr last ↦ (let p = all.complete t.one a was in at_end o n p.0 a (refl, refl) p.1 (key b last.1))
-              ]
+                elim (news t.other b t.other_gives) [
+                  | inl both ↦ keep_twice items x o n (all.once o n (record { one = t.one; other = t.other; differ = t.differ; one_value = t.one_value; one_gives = was; other_value = t.other_value; other_gives = both }))
+                  | inr last ↦ (let p = all.complete t.one a was in at_end o n p.0 a (refl, refl) p.1 (key b last.1))
+                ]
             | inr one ↦
-              elim (news t.other b t.other_gives) [
-                | inl was ↦ (let p = all.complete t.other b was in at_end o n p.0 b (refl, refl) p.1 (key a one.1))
-                | inr last ↦ absurd (t.differ (one.0 ∙ sym last.0))
-              ]
+                elim (news t.other b t.other_gives) [
+                  | inl was ↦ (let p = all.complete t.other b was in at_end o n p.0 b (refl, refl) p.1 (key a one.1))
+                  | inr last ↦ absurd (t.differ (one.0 ∙ sym last.0))
+                ]
           ]
 
       -- one item more is given, by a source that gave none of its owner

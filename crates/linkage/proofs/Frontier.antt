@@ -32,10 +32,10 @@ last_or_before place t i before =
     elim before [
       | inl less ↦ inl (inl less)
       | inr same ↦
-        elim (eq-or-lt_of_le {n = place.place} {m = i} (omega (arith, same.1))) [
-          | inl last ↦ inr (same_place place t i same.0 last)
-          | inr less ↦ inl (inr (same.0, less))
-        ]
+          elim (eq-or-lt_of_le {n = place.place} {m = i} (omega (arith, same.1))) [
+            | inl last ↦ inr (same_place place t i same.0 last)
+            | inr less ↦ inl (inr (same.0, less))
+          ]
     ]
 
 not_before_itself : (t i : ℕ) → IsBefore (place_at t i) (place_at t i) → ⊥
@@ -84,13 +84,16 @@ module _ {V : Type 0} (given : Option Place → Numbered V → Type 0) (items : 
       old : (source : Option Place) (item : Numbered V) → UpTo (place_at t count) given source item → UpTo (place_at (t + 1) 0) given source item
       old None item gives = gives
       old (Some place) item gives = (gives.0, elim gives.1 [ inl less ↦ inl (omega (arith, less)) | inr same ↦ inl (omega (arith, same.0)) ])
+
       back : (source : Option Place) (item : Numbered V) → UpTo (place_at (t + 1) 0) given source item → UpTo (place_at t count) given source item
       back None item gives = gives
-      back (Some place) item gives =
-          (gives.0, elim gives.1 [
-            | inl less ↦ elim (eq-or-lt_of_le {n = place.thread} {m = t} (omega (arith, less))) [ inl same ↦ inr (same, inside place item gives.0 same) | inr lower ↦ inl lower ]
-            | inr none ↦ absurd (omega (arith, none.1))
-          ])
+      back (Some place) item gives = (
+        gives.0,
+        elim gives.1 [
+          | inl less ↦ elim (eq-or-lt_of_le {n = place.thread} {m = t} (omega (arith, less))) [ inl same ↦ inr (same, inside place item gives.0 same) | inr lower ↦ inl lower ]
+          | inr none ↦ absurd (omega (arith, none.1))
+        ],
+      )
 
   -- after the last thread everything is before
   pub all_reached : (threads : ℕ) → ((place : Place) (item : Numbered V) → given (Some place) item → place.thread < threads) → IsAllOf (UpTo (place_at threads 0) given) items → IsAllOf given items
@@ -99,6 +102,7 @@ module _ {V : Type 0} (given : Option Place → Numbered V → Type 0) (items : 
       old : (source : Option Place) (item : Numbered V) → UpTo (place_at threads 0) given source item → given source item
       old None item gives = gives
       old (Some place) item gives = gives.0
+
       back : (source : Option Place) (item : Numbered V) → given source item → UpTo (place_at threads 0) given source item
       back None item gives = gives
       back (Some place) item gives = (gives, inl (inside place item gives))
@@ -110,6 +114,7 @@ module _ {V : Type 0} (given : Option Place → Numbered V → Type 0) (items : 
       old : (source : Option Place) (item : Numbered V) → StartsGiven first owners source item → UpTo (place_at 0 0) given source item
       old None item gives = to item gives.0 gives.1
       old (Some place) item gives = absurd gives
+
       back : (source : Option Place) (item : Numbered V) → UpTo (place_at 0 0) given source item → StartsGiven first owners source item
       back None item gives = from item gives
       back (Some place) item gives = absurd (nothing_first place gives.1)
@@ -135,9 +140,10 @@ inside traces place read w gives = known (event_at traces place) refl gives
     known : (o : Option Event) → event_at traces place ≡ o → option_and_then read o ≡ Some w → (place.place < length (events_of traces place.thread)) × (place.thread < length traces.events)
     known None is gives = absurd (cc (gives))
     known (Some event) is gives =
-        let below = slice_get_within (events_of traces place.thread) place.place event is in
-        (below,
-        elim (cases_lt place.thread (length traces.events)) [
-          | inl less ↦ less
-          | inr past ↦ absurd (let e : length (events_of traces place.thread) ≡ 0 = ap length (get_or_past traces.events place.thread [] past) in omega arith)
-        ])
+        let below = slice_get_within (events_of traces place.thread) place.place event is in (
+          below,
+          elim (cases_lt place.thread (length traces.events)) [
+            | inl less ↦ less
+            | inr past ↦ absurd (let e : length (events_of traces place.thread) ≡ 0 = ap length (get_or_past traces.events place.thread [] past) in omega arith)
+          ],
+        )

@@ -106,7 +106,7 @@ gathered_step traces t i (Exit monitor turn) old new there range g is =
 pub gathered_next : (traces : TraceLists) (t count : ℕ) (g : Gathered) → count ≡ length (events_of traces t) → count ≤ fuel_limit → IsGathered traces (place_at t count) g → IsGathered traces (place_at (t + 1) 0) g
 gathered_next traces t count g is few all =
     let here : (place : Place) → place.thread ≡ t → place.place < length (events_of traces place.thread) → place.place < count = λ place same below.
-        let e : length (events_of traces place.thread) ≡ length (events_of traces t) = ap (λ thread. length (events_of traces thread)) same in omega (arith, e, is) in
+    let e : length (events_of traces place.thread) ≡ length (events_of traces t) = ap (λ thread. length (events_of traces thread)) same in omega (arith, e, is) in
     record {
       writes = next_thread (WriteGiven traces) g.writes.items t count (λ place item gives same. here place same (inside traces place write_of _ gives).0) all.writes;
       entries = next_thread (EntryGiven traces) g.entries.items t count (λ place item gives same. here place same (inside traces place entered_by _ gives).0) all.entries;

@@ -4,6 +4,10 @@ pub mod Frontier
 pub mod GapLists
 pub mod GatherSteps
 pub mod Halving
+pub mod Moved
+pub mod NumberChecks
 pub mod NumberedLists
 pub mod Parts
+pub mod RefusalOrder
+pub mod Rows
 pub mod Unique

@@ -23,14 +23,18 @@ pub record IsWhole (traces : TraceLists) (links : List (List (Option ℕ))) : Ty
   pub linked : IsLinked traces links
   pub unrefused : (refusal : LinkError) → IsRefused traces refusal → ⊥
 
--- the links, or what is refused first; want of memory is free
+-- what is refused is the first refusal; want of memory is free
+abbrev pub IsTold : TraceLists → LinkError → Type 0
+IsTold traces NoMemory = Unit {0}
+IsTold traces (TwiceWritten cell number) = IsFirstRefusal traces (TwiceWritten cell number)
+IsTold traces (WriteGap cell number) = IsFirstRefusal traces (WriteGap cell number)
+IsTold traces (TwiceTurned monitor turn) = IsFirstRefusal traces (TwiceTurned monitor turn)
+IsTold traces (TurnGap monitor turn) = IsFirstRefusal traces (TurnGap monitor turn)
+IsTold traces (BoundTooLarge place) = IsFirstRefusal traces (BoundTooLarge place)
+IsTold traces (NoEqualWrite place) = IsFirstRefusal traces (NoEqualWrite place)
+IsTold traces (UpdateMismatch place) = IsFirstRefusal traces (UpdateMismatch place)
+
+-- the links, where nothing is refused, or what is refused first
 abbrev pub IsAnswer : TraceLists → Result (List (List (Option ℕ))) LinkError → Type 0
 IsAnswer traces (Ok links) = IsWhole traces links
-IsAnswer traces (Err NoMemory) = Unit {0}
-IsAnswer traces (Err (TwiceWritten cell number)) = IsFirstRefusal traces (TwiceWritten cell number)
-IsAnswer traces (Err (WriteGap cell number)) = IsFirstRefusal traces (WriteGap cell number)
-IsAnswer traces (Err (TwiceTurned monitor turn)) = IsFirstRefusal traces (TwiceTurned monitor turn)
-IsAnswer traces (Err (TurnGap monitor turn)) = IsFirstRefusal traces (TurnGap monitor turn)
-IsAnswer traces (Err (BoundTooLarge place)) = IsFirstRefusal traces (BoundTooLarge place)
-IsAnswer traces (Err (NoEqualWrite place)) = IsFirstRefusal traces (NoEqualWrite place)
-IsAnswer traces (Err (UpdateMismatch place)) = IsFirstRefusal traces (UpdateMismatch place)
+IsAnswer traces (Err refusal) = IsTold traces refusal

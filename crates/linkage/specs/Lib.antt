@@ -1,5 +1,6 @@
 pub mod AllOf
 pub mod Answers
+pub mod Checking
 pub mod GatherShows
 pub mod Laws
 pub mod Links

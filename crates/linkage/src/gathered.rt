@@ -78,7 +78,10 @@ impl Gathered {
                 value,
             })?,
             Event::Update {
-                cell, new, number, ..
+                cell,
+                new,
+                number,
+                ..
             } => self.writes.push(Numbered {
                 owner: cell,
                 number,

@@ -14,6 +14,8 @@ mod link_error;
 mod linking;
 mod links;
 mod numbered;
+mod row;
+mod turns;
 
 pub use latest_write::latest;
 pub use laws::{one_first_refusal, one_link, one_linking};

@@ -13,10 +13,11 @@ loop-cell-preserved c =
     let starts = c.args.traces.now.starts in
     let start : slice_get starts cell ≡ Some c.start_of.result = slice_get-get_or starts cell 0 (omega (arith, c.cells-cell-end.ensures.count)) ∙ ap Some (sym c.start_of.ensures) in
     let value : (item : Numbered ℕ) → slice_get starts item.owner ≡ Some item.value → item.owner ≡ cell → item.value ≡ c.start_of.result = λ item is own.
-        let there : slice_get starts cell ≡ Some item.value = rw own at is in cc in
-    (rw c.in_ok-push.ensures.items
-    (starts_more (WriteGiven c.args.traces.now) cell c.loop-cell.writes.items (record { owner = cell; number = 0; value = c.start_of.result }) refl (refl, start) (λ item gives own. same_numbered item _ own gives.0 (value item gives.1 own)) c.loop-cell.invariant.0),
-    ap length c.in_ok-push.ensures.items ∙ omega (arith, length-append {A = Numbered ℕ}, c.loop-cell.invariant.1))
+    let there : slice_get starts cell ≡ Some item.value = rw own at is in cc in (
+      rw c.in_ok-push.ensures.items
+          (starts_more (WriteGiven c.args.traces.now) cell c.loop-cell.writes.items (record { owner = cell; number = 0; value = c.start_of.result }) refl (refl, start) (λ item gives own. same_numbered item _ own gives.0 (value item gives.1 own)) c.loop-cell.invariant.0),
+      ap length c.in_ok-push.ensures.items ∙ omega (arith, length-append {A = Numbered ℕ}, c.loop-cell.invariant.1),
+    )
 
 pub returns-clause-writes : goal.returns-clause-writes
 returns-clause-writes c =
