@@ -1,5 +1,6 @@
 pub mod AllOfLists
 mod Examples
+pub mod Finds
 pub mod Frontier
 pub mod GapLists
 pub mod GatherSteps

@@ -1,7 +1,9 @@
 pub mod AllOf
 pub mod Answers
 pub mod Checking
+pub mod Finding
 pub mod GatherShows
+pub mod Indexing
 pub mod Laws
 pub mod Links
 pub mod Looking

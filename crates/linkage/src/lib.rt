@@ -6,6 +6,7 @@
 //! a number of looks that grows with the number of events.
 #![tactic(auto)]
 
+mod finder;
 mod gaps;
 mod gathered;
 mod latest_write;
