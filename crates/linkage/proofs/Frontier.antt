@@ -21,13 +21,13 @@ use Rattle.linkage.proofs.AllOfLists.{all_of_more, all_of_same, get_pushed}
 use Rattle.linkage.proofs.Parts.{same_write, same_turn}
 
 -- places before the next one of a thread
-further : (place : Place) (t i : ℕ) → IsBefore place (place_at t i) → IsBefore place (place_at t (i + 1))
+pub further : (place : Place) (t i : ℕ) → IsBefore place (place_at t i) → IsBefore place (place_at t (i + 1))
 further place t i before = elim before [ inl less ↦ inl less | inr same ↦ inr (same.0, omega arith) ]
 
-same_place : (place : Place) (t i : ℕ) → place.thread ≡ t → place.place ≡ i → place ≡ place_at t i
+pub same_place : (place : Place) (t i : ℕ) → place.thread ≡ t → place.place ≡ i → place ≡ place_at t i
 same_place place t i thread at = λ k. record { thread = thread k; place = at k }
 
-last_or_before : (place : Place) (t i : ℕ) → IsBefore place (place_at t (i + 1)) → IsBefore place (place_at t i) ⊎ (place ≡ place_at t i)
+pub last_or_before : (place : Place) (t i : ℕ) → IsBefore place (place_at t (i + 1)) → IsBefore place (place_at t i) ⊎ (place ≡ place_at t i)
 last_or_before place t i before =
     elim before [
       | inl less ↦ inl (inl less)

@@ -1,4 +1,5 @@
 pub mod AllOfLists
+pub mod EventLinks
 mod Examples
 pub mod Finds
 pub mod Frontier
@@ -9,6 +10,7 @@ pub mod Moved
 pub mod NumberChecks
 pub mod NumberedLists
 pub mod Parts
+pub mod Progress
 pub mod RefusalOrder
 pub mod Rows
 pub mod Unique

@@ -7,6 +7,7 @@ pub mod Indexing
 pub mod Laws
 pub mod Links
 pub mod Looking
+pub mod Misfitting
 pub mod Numbers
 pub mod Refusals
 pub mod Sources

@@ -7,6 +7,7 @@
 #![tactic(auto)]
 
 mod finder;
+mod finding;
 mod gaps;
 mod gathered;
 mod latest_write;
@@ -14,6 +15,7 @@ mod laws;
 mod link_error;
 mod linking;
 mod links;
+mod misfits;
 mod numbered;
 mod row;
 mod turns;

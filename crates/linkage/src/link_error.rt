@@ -1,6 +1,6 @@
 //! `LinkError`: why events were not linked.
 use interleavings::Place;
-use std::alloc::AllocError;
+use std::alloc::{AllocError, AllocFailed};
 use stride_base::NoMemory as OutOfMemory;
 
 /// Why events were not linked. Of several reasons the first of this list is told, and of several of one kind that of the least
@@ -44,6 +44,17 @@ impl From<AllocError> for LinkError {
     ghost from_gives = { λ _ error. error ≡ NoMemory };
 
     fn from(_cause: AllocError) -> LinkError {
+        LinkError::NoMemory
+    }
+}
+
+impl<T: Drop> From<AllocFailed<T>> for LinkError {
+    ghost use Rattle.std.specs.Prelude.{◌≡◌};
+    ghost use Rattle.linkage.specs.declared.link_error.LinkError.TheVariants.{NoMemory};
+
+    ghost from_gives = { λ _ error. error ≡ NoMemory };
+
+    fn from(_cause: AllocFailed<T>) -> LinkError {
         LinkError::NoMemory
     }
 }
