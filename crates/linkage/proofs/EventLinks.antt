@@ -1,25 +1,22 @@
 -- What one event is linked to.
-use Rattle.std.proofs.Common.{◌≡◌, ◌∙◌, ℕ, zero, suc, ◌+◌, ◌-◌, ◌*◌, ◌<◌, ◌≤◌, ◌⊎◌, inl, inr, List, [], ◌∷◌, length, get_or, refl, sym, ap, subst, arith, nat_eq}
-use Rattle.std.specs.Prelude.{Option, Some, None, slice_get, slice_index}
+use Rattle.std.proofs.Common.{◌≡◌, ◌∙◌, ℕ, ◌+◌, ◌-◌, ◌<◌, ◌≤◌, inl, inr, length, get_or, refl, sym, ap, subst, arith, nat_eq}
+use Rattle.std.specs.Prelude.{Some, slice_get, slice_index}
 use Rattle.std.specs.Option.{option_and_then}
 use Rattle.std.proofs.lemmas.Bool.{cases_Bool, eqb-false, eqb-true}
-use Rattle.std.proofs.lemmas.Option.{get_or_from_slice_get, slice_get-get_or, slice_get_within}
-use Rattle.stride_isa.specs.Limits.{cell_limit, fuel_limit, thread_limit}
-use Rattle.interleavings.specs.declared.event.Event.{Event}
-use Rattle.interleavings.specs.declared.event.Event.TheVariants.{Read, Write, Update, Enter, Exit}
+use Rattle.std.proofs.lemmas.Option.{get_or_from_slice_get}
+use Rattle.interleavings.specs.declared.event.Event.TheVariants.{Read, Update}
 use Rattle.interleavings.specs.declared.traces.Place.{Place}
-use Rattle.interleavings.specs.Events.{WriteOf, ReadOf, write_of, read_of, bound_of}
+use Rattle.interleavings.specs.Events.{write_of, read_of, bound_of}
 use Rattle.interleavings.specs.TraceLists.{TraceLists}
 use Rattle.linkage.specs.declared.numbered.Numbered.{Numbered}
 use Rattle.linkage.specs.declared.row.Row.{Row}
-use Rattle.linkage.specs.Checking.{IsInRow, IsRow}
-use Rattle.linkage.specs.Finding.{Holds, IsLinkOrNone}
+use Rattle.linkage.specs.Checking.{IsRow}
 use Rattle.linkage.specs.Links.{IsLink}
 use Rattle.linkage.specs.Misfitting.{IsOldStored, IsLinkedAt, IsUnread}
 use Rattle.linkage.specs.Refusals.{IsBoundTooLarge, IsUnequal, IsMismatch}
 use Rattle.linkage.specs.Sources.{event_at, Stored, IsReadAt, IsUpdateAt}
-use Rattle.linkage.proofs.Finds.{stored_held, row_inside}
-use Rattle.linkage.proofs.Frontier.{gives_none, gives_some, gives_one}
+use Rattle.linkage.proofs.Finds.{stored_held}
+use Rattle.linkage.proofs.Frontier.{gives_none, gives_one}
 use Rattle.linkage.proofs.Parts.{same_read, same_write}
 
 same_number : (a b : ℕ) → Some a ≡ Some b → a ≡ b
@@ -108,12 +105,12 @@ old_stored traces row cell old number place item is own most some where_is read 
           let P : ℕ → Type 0 = λ v. Stored traces cell (number - 1) v in
           rw equal (number - 1, omega arith, subst P (sym value ∙ same) t.2))
       | inr apart ↦
-        rw apart
-        (λ below next stored.
-        let b : below ≡ number - 1 = omega arith in
-        let Q : ℕ → Type 0 = λ n. Stored traces cell n old in
-        let h = stored_held traces row is cell (number - 1) old (subst Q b stored) in
-        let both : Some h.0 ≡ Some x = sym h.1 ∙ t.1.1 in
-        let same : h.0 ≡ x = cc in
-        eqb-false item.value old apart (value ∙ (ap (λ (y : Numbered ℕ). y.value) (sym same) ∙ h.2)))
+          rw apart
+          (λ below next stored.
+          let b : below ≡ number - 1 = omega arith in
+          let Q : ℕ → Type 0 = λ n. Stored traces cell n old in
+          let h = stored_held traces row is cell (number - 1) old (subst Q b stored) in
+          let both : Some h.0 ≡ Some x = sym h.1 ∙ t.1.1 in
+          let same : h.0 ≡ x = cc in
+          eqb-false item.value old apart (value ∙ (ap (λ (y : Numbered ℕ). y.value) (sym same) ∙ h.2)))
     ]

@@ -1,10 +1,9 @@
 -- Finding the write of a read, in the row and in the index.
-use Rattle.std.proofs.Common.{◌≡◌, ◌∙◌, ℕ, zero, suc, ◌+◌, ◌-◌, ◌*◌, ◌^◌, ◌<◌, ◌≤◌, ◌↔◌, ◌⊎◌, inl, inr, List, [], ◌∷◌, length, map, get_or, refl, sym, ap, subst, arith}
-use Rattle.std.specs.Prelude.{Option, Some, None, Contains, slice_get, slice_index}
-use Rattle.std.proofs.Math.Nat.{eq-or-lt_of_le}
+use Rattle.std.proofs.Common.{◌≡◌, ◌∙◌, ℕ, zero, suc, ◌+◌, ◌-◌, ◌*◌, ◌^◌, ◌<◌, ◌≤◌, inl, inr, List, [], ◌∷◌, length, map, get_or, refl, sym, ap, subst, arith}
+use Rattle.std.specs.Prelude.{Option, Some, None, slice_get, slice_index}
 use Rattle.std.proofs.Math.Pow.{pow_mono}
 use Rattle.std.proofs.lemmas.Bool.{cases_eq, cases_lt}
-use Rattle.std.proofs.lemmas.List.{get_or_default, length-map}
+use Rattle.std.proofs.lemmas.List.{length-map}
 use Rattle.std.proofs.lemmas.Option.{get_or_from_slice_get, slice_get-get_or, slice_get_within}
 use Rattle.stride_base.specs.Ascending.{Triple, AreDistinct, HaveSameMembers}
 use Rattle.stride_isa.specs.Limits.{cell_limit, fuel_limit, thread_limit}
@@ -12,15 +11,15 @@ use Rattle.interleavings.specs.TraceLists.{TraceLists}
 use Rattle.linkage.specs.declared.numbered.Numbered.{Numbered}
 use Rattle.linkage.specs.declared.row.Row.{Row}
 use Rattle.linkage.specs.Answers.{IsLatest}
-use Rattle.linkage.specs.Checking.{IsInRow, IsRow}
+use Rattle.linkage.specs.Checking.{IsRow}
 use Rattle.linkage.specs.Finding.{Holds, IsNearBelow, IsNear, IsIndex, IsLinkOrNone, look_up_looks}
 use Rattle.linkage.specs.Indexing.{triple_of}
 use Rattle.linkage.specs.Links.{IsLink}
-use Rattle.linkage.specs.Numbers.{IsItemAt, IsTwice, IsFirstTwice}
+use Rattle.linkage.specs.Numbers.{IsFirstTwice}
 use Rattle.linkage.specs.Sources.{Stored}
 use Rattle.linkage.proofs.GapLists.{item_same}
 use Rattle.linkage.proofs.NumberChecks.{stored_listed, listed_stored}
-use Rattle.linkage.proofs.NumberedLists.{one_item, item_there}
+use Rattle.linkage.proofs.NumberedLists.{item_there}
 
 -- near the bound
 module _ (row : Row) (cell value bound below place : ℕ) (item : Numbered ℕ) (where_is : place ≡ slice_index row.firsts.items cell + (bound - below)) (inside : place < length row.writes.items) (is : item ≡ get_or row.writes.items place item) (under : below ≤ bound) (so_far : IsNearBelow row cell value bound below) where
@@ -94,10 +93,10 @@ distinct_triples writes triples is single i j d i_in j_in same =
     elim (cases_eq i j) [
       | inl e ↦ e
       | inr apart ↦ absurd
-        (elim (cases_lt i j) [
-          | inl less ↦ single x.owner x.number (record { one = i; other = j; apart = less; at_one = here; at_other = there })
-          | inr more ↦ single x.owner x.number (record { one = j; other = i; apart = lesser i j more apart; at_one = there; at_other = here })
-        ])
+          (elim (cases_lt i j) [
+            | inl less ↦ single x.owner x.number (record { one = i; other = j; apart = less; at_one = here; at_other = there })
+            | inr more ↦ single x.owner x.number (record { one = j; other = i; apart = lesser i j more apart; at_one = there; at_other = here })
+          ])
     ]
   where
     lesser : (a b : ℕ) → b ≤ a → (a ≡ b → ⊥) → b < a

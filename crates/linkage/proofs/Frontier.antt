@@ -1,24 +1,19 @@
 -- All writes and turns before a place, as the place goes on.
-use Rattle.std.proofs.Common.{◌≡◌, ◌∙◌, ℕ, zero, suc, ◌+◌, ◌*◌, ◌<◌, ◌≤◌, ◌⊎◌, inl, inr, List, [], ◌∷◌, ◌++◌, length, get_or, refl, sym, ap, subst, arith, length-append}
-use Rattle.std.specs.Prelude.{Option, Some, None, slice_get}
+use Rattle.std.proofs.Common.{◌≡◌, ◌∙◌, ℕ, ◌+◌, ◌<◌, ◌⊎◌, inl, inr, List, [], ◌∷◌, ◌++◌, length, refl, sym, ap, subst, arith}
+use Rattle.std.specs.Prelude.{Option, Some, None}
 use Rattle.std.specs.Option.{option_and_then}
 use Rattle.std.proofs.Math.Nat.{eq-or-lt_of_le}
 use Rattle.std.proofs.lemmas.Bool.{cases_lt}
 use Rattle.std.proofs.lemmas.List.{get_or_past}
-use Rattle.std.proofs.lemmas.Option.{slice_get_within, slice_get-get_or}
+use Rattle.std.proofs.lemmas.Option.{slice_get_within}
 use Rattle.interleavings.specs.declared.event.Event.{Event}
-use Rattle.interleavings.specs.declared.event.Event.TheVariants.{Read, Write, Update, Enter, Exit}
 use Rattle.interleavings.specs.declared.traces.Place.{Place}
-use Rattle.interleavings.specs.Events.{WriteOf, TurnOf, write_of, entered_by, left_by}
-use Rattle.interleavings.specs.TraceLists.{TraceLists, IsInRange, events_of}
-use Rattle.linkage.specs.declared.gathered.Gathered.{Gathered}
+use Rattle.interleavings.specs.TraceLists.{TraceLists, events_of}
 use Rattle.linkage.specs.declared.numbered.Numbered.{Numbered}
-use Rattle.linkage.specs.AllOf.{IsAllOf, StartsGiven, WriteGiven, TurnZero}
-use Rattle.linkage.specs.GatherShows.{place_at, IsBefore, UpTo, EntryGiven, ExitGiven, IsWithin, IsGathered, IsGatheredAll, IsAdded}
-use Rattle.linkage.specs.Numbers.{Earlier, IsItemAt, AreOwned}
+use Rattle.linkage.specs.AllOf.{IsAllOf, StartsGiven}
+use Rattle.linkage.specs.GatherShows.{place_at, IsBefore, UpTo}
 use Rattle.linkage.specs.Sources.{event_at}
-use Rattle.linkage.proofs.AllOfLists.{all_of_more, all_of_same, get_pushed}
-use Rattle.linkage.proofs.Parts.{same_write, same_turn}
+use Rattle.linkage.proofs.AllOfLists.{all_of_more, all_of_same}
 
 -- places before the next one of a thread
 pub further : (place : Place) (t i : ℕ) → IsBefore place (place_at t i) → IsBefore place (place_at t (i + 1))

@@ -1,12 +1,12 @@
 -- Gaps in lists of items that ascend by owner and number.
-use Rattle.std.proofs.Common.{◌≡◌, ◌∙◌, ℕ, zero, suc, ◌+◌, ◌-◌, ◌<◌, ◌≤◌, ◌≢◌, ◌⊎◌, inl, inr, List, length, get_or, set, replicate, max, refl, sym, ap, subst, arith, add-one, get_or-set_same, get_or-set_other}
+use Rattle.std.proofs.Common.{◌≡◌, ◌∙◌, ℕ, zero, suc, ◌+◌, ◌-◌, ◌<◌, ◌≤◌, ◌≢◌, ◌⊎◌, inl, inr, List, length, get_or, set, replicate, max, refl, sym, subst, arith, add-one, get_or-set_same, get_or-set_other}
 use Rattle.std.specs.Prelude.{Option, Some, None, slice_get, slice_index}
 use Rattle.std.proofs.Math.Nat.{eq-or-lt_of_le}
 use Rattle.std.proofs.lemmas.Bool.{cases_eq, cases_lt}
 use Rattle.std.proofs.lemmas.List.{length-set}
-use Rattle.std.proofs.lemmas.Option.{slice_get-get_or, slice_get_past, slice_get_within}
+use Rattle.std.proofs.lemmas.Option.{slice_get_past}
 use Rattle.linkage.specs.declared.numbered.Numbered.{Numbered}
-use Rattle.linkage.specs.Numbers.{NotAfter, Earlier, IsItemAt, IsOrdered, AreOwned, AreStarted, AreGreatestBelow, IsGap, IsFirstGap, IsFollowed, IsGapAfter, AreFollowedBelow}
+use Rattle.linkage.specs.Numbers.{NotAfter, Earlier, IsItemAt, IsOrdered, AreStarted, AreGreatestBelow, IsGap, IsFirstGap, IsFollowed, AreFollowedBelow}
 use Rattle.linkage.proofs.NumberedLists.{one_item, item_there, item_inside}
 
 -- a pair that is not after another and is not equal to it is earlier

@@ -1,18 +1,18 @@
 -- All writes and turns before a place, with those of the event there.
-use Rattle.std.proofs.Common.{◌≡◌, ◌∙◌, ℕ, ◌+◌, ◌*◌, ◌<◌, ◌≤◌, ◌⊎◌, inl, inr, List, [], ◌∷◌, ◌++◌, length, get_or, refl, sym, ap, subst, arith, length-append}
-use Rattle.std.specs.Prelude.{Option, Some, None, slice_get}
+use Rattle.std.proofs.Common.{◌≡◌, ℕ, ◌+◌, ◌*◌, ◌<◌, ◌≤◌, inl, inr, List, [], ◌∷◌, ◌++◌, length, refl, sym, ap, subst, arith, length-append}
+use Rattle.std.specs.Prelude.{Option, Some, None}
 use Rattle.std.proofs.lemmas.Option.{slice_get_within}
 use Rattle.stride_isa.specs.Limits.{cell_limit, fuel_limit, monitor_limit, thread_limit}
 use Rattle.interleavings.specs.declared.event.Event.{Event}
 use Rattle.interleavings.specs.declared.event.Event.TheVariants.{Read, Write, Update, Enter, Exit}
 use Rattle.interleavings.specs.declared.traces.Place.{Place}
-use Rattle.interleavings.specs.Events.{WriteOf, TurnOf, write_of, entered_by, left_by}
+use Rattle.interleavings.specs.Events.{write_of, entered_by, left_by}
 use Rattle.interleavings.specs.TraceLists.{TraceLists, IsInRange, events_of}
 use Rattle.linkage.specs.declared.gathered.Gathered.{Gathered}
 use Rattle.linkage.specs.declared.numbered.Numbered.{Numbered}
 use Rattle.linkage.specs.AllOf.{IsAllOf, StartsGiven, WriteGiven, TurnZero}
-use Rattle.linkage.specs.GatherShows.{place_at, IsBefore, UpTo, EntryGiven, ExitGiven, IsWithin, IsGathered, IsGatheredAll, IsAdded}
-use Rattle.linkage.specs.Numbers.{IsItemAt, AreOwned}
+use Rattle.linkage.specs.GatherShows.{place_at, UpTo, EntryGiven, ExitGiven, IsGathered, IsGatheredAll, IsAdded}
+use Rattle.linkage.specs.Numbers.{AreOwned}
 use Rattle.linkage.specs.Sources.{event_at}
 use Rattle.linkage.proofs.AllOfLists.{get_pushed}
 use Rattle.linkage.proofs.Frontier.{pass_place, take_place, next_thread, all_reached, from_start, same_numbered, gives_none, gives_some, gives_one, inside}

@@ -1,6 +1,6 @@
 -- All items stay listed when their list is sorted.
-use Rattle.std.proofs.Common.{◌≡◌, ◌∙◌, ℕ, ◌+◌, ◌<◌, ◌≤◌, ◌⊎◌, inl, inr, List, length, get_or, set, refl, sym, ap, subst, arith, get_or-set_same, get_or-set_other}
-use Rattle.std.specs.Prelude.{Option, Some, None, slice_get, IsPermutation}
+use Rattle.std.proofs.Common.{◌≡◌, ◌∙◌, ℕ, ◌<◌, ◌≤◌, ◌⊎◌, inl, inr, List, length, get_or, set, refl, sym, ap, subst, arith, get_or-set_same, get_or-set_other}
+use Rattle.std.specs.Prelude.{Option, Some, slice_get, IsPermutation}
 use Rattle.std.specs.List.{swap}
 use Rattle.std.proofs.lemmas.Bool.{cases_eq, cases_lt}
 use Rattle.std.proofs.lemmas.List.{length-set}
@@ -9,7 +9,7 @@ use Rattle.std.proofs.lemmas.List.Sorted.{IsPermutation-keeps}
 use Rattle.std.proofs.lemmas.Option.{get_or_from_slice_get, slice_get-get_or, slice_get_within}
 use Rattle.interleavings.specs.declared.traces.Place.{Place}
 use Rattle.linkage.specs.declared.numbered.Numbered.{Numbered}
-use Rattle.linkage.specs.AllOf.{IsAllOf, IsGivenTwice}
+use Rattle.linkage.specs.AllOf.{IsAllOf}
 use Rattle.linkage.specs.Numbers.{IsItemAt, IsOrdered, IsTwice, AreOwned}
 
 -- where the item of a place goes when two places are exchanged

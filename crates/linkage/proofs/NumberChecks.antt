@@ -1,22 +1,17 @@
 -- What the checks of numbers and turns find is what is refused.
-use Rattle.std.proofs.Common.{◌≡◌, ◌∙◌, ℕ, zero, suc, ◌+◌, ◌-◌, ◌<◌, ◌≤◌, ◌≢◌, ◌⊎◌, inl, inr, List, [], ◌∷◌, length, get_or, set, refl, sym, ap, subst, arith, add-one, get_or-set_same, get_or-set_other}
-use Rattle.std.specs.Prelude.{Option, Some, None, slice_get, slice_index}
-use Rattle.std.proofs.Math.Nat.{eq-or-lt_of_le}
-use Rattle.std.proofs.lemmas.Bool.{cases_eq, cases_lt}
-use Rattle.std.proofs.lemmas.List.{length-set}
+use Rattle.std.proofs.Common.{◌≡◌, ℕ, List, length, get_or, refl, arith}
+use Rattle.std.specs.Prelude.{Some, None, slice_get, slice_index}
 use Rattle.std.proofs.lemmas.Option.{slice_get-get_or, slice_get_within}
-use Rattle.interleavings.specs.declared.traces.Place.{Place}
 use Rattle.interleavings.specs.TraceLists.{TraceLists}
 use Rattle.linkage.specs.declared.link_error.LinkError.{LinkError}
-use Rattle.linkage.specs.declared.link_error.LinkError.TheVariants.{TwiceWritten, WriteGap, TwiceTurned, TurnGap, BoundTooLarge, NoEqualWrite, UpdateMismatch, NoMemory}
+use Rattle.linkage.specs.declared.link_error.LinkError.TheVariants.{TwiceWritten, WriteGap, TwiceTurned, TurnGap}
 use Rattle.linkage.specs.declared.numbered.Numbered.{Numbered}
-use Rattle.linkage.specs.AllOf.{IsAllOf, IsGivenTwice, WriteGiven}
-use Rattle.linkage.specs.Checking.{NoneBelow, AreFirstsBelow}
+use Rattle.linkage.specs.AllOf.{IsAllOf, WriteGiven}
+use Rattle.linkage.specs.Checking.{NoneBelow}
 use Rattle.linkage.specs.GatherShows.{EntryGiven, ExitGiven}
-use Rattle.linkage.specs.Numbers.{NotAfter, IsItemAt, IsOrdered, IsTwice, IsFirstTwice, AreOwned, AreStarted, AreGreatest, IsGap, IsFirstGap}
+use Rattle.linkage.specs.Numbers.{NotAfter, IsTwice, IsFirstTwice, AreOwned, AreStarted, AreGreatest, IsGap, IsFirstGap}
 use Rattle.linkage.specs.Refusals.{IsTwiceWritten, IsWriteGap, IsTwiceTurned, IsTurnGap, IsRefused, IsFirstRefusal, rank_of}
-use Rattle.linkage.specs.Sources.{IsWriteAt, Stored, IsEntryAt, IsExitAt}
-use Rattle.linkage.proofs.NumberedLists.{one_item, item_there, item_inside}
+use Rattle.linkage.specs.Sources.{Stored}
 use Rattle.linkage.proofs.RefusalOrder.{none_below_first, none_below_next, first_of_kind}
 
 -- writes

@@ -1,8 +1,7 @@
 -- Lists of items that ascend by owner and number.
-use Rattle.std.proofs.Common.{◌≡◌, ◌∙◌, ℕ, ◌+◌, ◌-◌, ◌<◌, ◌≤◌, ◌⊎◌, inl, inr, List, length, get_or, refl, sym, ap, subst, arith, false, Ordering}
-use Rattle.std.specs.Prelude.{Option, Some, None, slice_get}
+use Rattle.std.proofs.Common.{◌≡◌, ◌∙◌, ℕ, ◌+◌, ◌-◌, ◌<◌, ◌≤◌, inl, inr, List, length, get_or, refl, sym, ap, subst, arith, false, Ordering}
+use Rattle.std.specs.Prelude.{Some, None}
 use Rattle.std.specs.Ordering.{is_lt, nat_cmp, ordering_then}
-use Rattle.std.specs.declared.cmp.Ordering.TheVariants.{Less, Equal, Greater}
 use Rattle.std.specs.List.Sorted.{IsSortedByKey}
 use Rattle.std.proofs.Math.Nat.{eq-or-lt_of_le}
 use Rattle.std.proofs.lemmas.Bool.{cases_lt}
@@ -10,7 +9,7 @@ use Rattle.std.proofs.lemmas.Cmp.{by_ranked, nat_cmp_total, on_total, ranked, th
 use Rattle.std.proofs.lemmas.List.Sorted.{ranks_by, sorted_far}
 use Rattle.std.proofs.lemmas.Option.{get_or_from_slice_get, slice_get-get_or, slice_get_within}
 use Rattle.linkage.specs.declared.numbered.Numbered.{Numbered}
-use Rattle.linkage.specs.Numbers.{NotAfter, IsItemAt, IsOrdered, IsTwice, IsFirstTwice, AreApartBelow}
+use Rattle.linkage.specs.Numbers.{NotAfter, IsItemAt, IsOrdered, IsFirstTwice, AreApartBelow}
 
 -- what std's order of pairs answers
 abbrev pair_cmp : ℕ × ℕ → ℕ × ℕ → Ordering

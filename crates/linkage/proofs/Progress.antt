@@ -1,30 +1,28 @@
 -- Linking event by event.
-use Rattle.std.proofs.Common.{◌≡◌, ◌∙◌, ℕ, zero, suc, ◌+◌, ◌-◌, ◌*◌, ◌<◌, ◌≤◌, ◌⊎◌, inl, inr, List, [], ◌∷◌, ◌++◌, length, get_or, refl, sym, ap, subst, arith, length-append}
-use Rattle.std.specs.Prelude.{Option, Some, None, Result, Ok, Err, slice_get}
-use Rattle.std.specs.Option.{option_and_then, option_or}
+use Rattle.std.proofs.Common.{◌≡◌, ◌∙◌, ℕ, ◌+◌, ◌<◌, inl, inr, List, [], ◌∷◌, ◌++◌, length, get_or, refl, sym, ap, subst, arith, length-append}
+use Rattle.std.specs.Prelude.{Option, Some, None, Result, Ok}
+use Rattle.std.specs.Option.{option_or}
 use Rattle.std.proofs.Math.Nat.{eq-or-lt_of_le}
 use Rattle.std.proofs.lemmas.Bool.{cases_lt}
 use Rattle.std.proofs.lemmas.List.{get_or_append_left, get_or_past, get_or_push}
-use Rattle.stride_base.specs.Ascending.{Before}
 use Rattle.interleavings.specs.declared.traces.Place.{Place}
-use Rattle.interleavings.specs.Events.{read_of, write_of, bound_of}
+use Rattle.interleavings.specs.Events.{read_of}
 use Rattle.interleavings.specs.TraceLists.{TraceLists, events_of}
 use Rattle.linkage.specs.declared.finding.Finding.{Finding}
 use Rattle.linkage.specs.declared.finding.Finding.TheVariants.{Linked, Unlinked, TooLarge, Unequal, Mismatch}
 use Rattle.linkage.specs.declared.link_error.LinkError.{LinkError}
 use Rattle.linkage.specs.declared.link_error.LinkError.TheVariants.{TwiceWritten, WriteGap, TwiceTurned, TurnGap, BoundTooLarge, NoEqualWrite, UpdateMismatch, NoMemory}
 use Rattle.linkage.specs.declared.misfits.Misfits.{Misfits}
-use Rattle.linkage.specs.Answers.{IsAnswer, IsTold, IsWhole}
+use Rattle.linkage.specs.Answers.{IsWhole}
 use Rattle.linkage.specs.Checking.{NoneBelow}
 use Rattle.linkage.specs.GatherShows.{IsBefore, place_at}
-use Rattle.linkage.specs.Links.{IsLink, IsLinked, link_at, links_of}
-use Rattle.linkage.specs.Misfitting.{IsLinkedAt, IsUnread, IsFinding, IsFirstBefore, IsProgress, IsNoted, IsLinkAt, IsRowUpTo, IsRowLinked, AreRowsLinked, told_by, told_of}
-use Rattle.linkage.specs.Numbers.{NotAfter}
-use Rattle.linkage.specs.Refusals.{IsBoundTooLarge, IsUnequal, IsMismatch, IsRefused, IsFirstRefusal, rank_of}
-use Rattle.linkage.specs.Sources.{event_at, IsReadAt}
-use Rattle.linkage.proofs.Frontier.{further, last_or_before, inside, same_place}
+use Rattle.linkage.specs.Links.{IsLink, links_of}
+use Rattle.linkage.specs.Misfitting.{IsFinding, IsFirstBefore, IsProgress, IsNoted, IsLinkAt, IsRowUpTo, IsRowLinked, AreRowsLinked, told_by}
+use Rattle.linkage.specs.Refusals.{IsBoundTooLarge, IsUnequal, IsMismatch, IsRefused, rank_of}
+use Rattle.linkage.specs.Sources.{IsReadAt}
+use Rattle.linkage.proofs.Frontier.{last_or_before, inside}
 use Rattle.linkage.proofs.Parts.{same_read}
-use Rattle.linkage.proofs.RefusalOrder.{first_of_kind, none_below_next}
+use Rattle.linkage.proofs.RefusalOrder.{none_below_next}
 
 -- misfits of one kind
 module _ (misfit : Place → Type 0) where
@@ -48,35 +46,16 @@ module _ (misfit : Place → Type 0) where
   none_next t count within before place under m =
       elim under [
         | inl less ↦
-          elim (eq-or-lt_of_le {n = place.thread} {m = t} (omega (arith, less))) [
-            | inl same ↦ before place (inr (same, within place m same)) m
-            | inr lower ↦ before place (inl lower) m
-          ]
+            elim (eq-or-lt_of_le {n = place.thread} {m = t} (omega (arith, less))) [
+              | inl same ↦ before place (inr (same, within place m same)) m
+              | inr lower ↦ before place (inl lower) m
+            ]
         | inr none ↦ omega (arith, none.1)
       ]
 
   pub next_first : (t count : ℕ) (found : Option Place) → ((place : Place) → misfit place → place.thread ≡ t → place.place < count) → IsFirstBefore misfit (place_at t count) found → IsFirstBefore misfit (place_at (t + 1) 0) found
   next_first t count None within first = none_next t count within first
   next_first t count (Some place) within first = first
-
-  -- two places that are not in order
-  not_before : (a b : Place) → (IsBefore b a → ⊥) → NotAfter a.thread a.place b.thread b.place
-  not_before a b no_less =
-      elim (cases_lt a.thread b.thread) [
-        | inl less ↦ inl less
-        | inr most ↦
-          elim (eq-or-lt_of_le {n = b.thread} {m = a.thread} most) [
-            | inl same ↦
-              elim (cases_lt b.place a.place) [
-                | inl less ↦ absurd (no_less (inr (same, less)))
-                | inr more ↦ inr (sym same, more)
-              ]
-            | inr less ↦ absurd (no_less (inl less))
-          ]
-      ]
-
-  pub first_is_least : (found place : Place) → ((p : Place) → IsBefore p found → misfit p → ⊥) → misfit place → NotAfter found.thread found.place place.thread place.place
-  first_is_least found place first m = not_before found place (λ less. first place less m)
 
 -- a link that was given
 abbrev given_link : Option ℕ → Result (Option ℕ) LinkError
@@ -168,20 +147,6 @@ module _ (traces : TraceLists) where
       unread = λ none. same_link link None noted.1;
     }
 
-    -- a bound that is too large is told at once
-    pub told_here : (finding : Finding) (new : Misfits) (refusal : LinkError) → NoneBelow traces 5 → IsFinding traces (place_at t i) finding → IsNoted old (place_at t i) finding new (Err refusal) → IsTold traces refusal
-    told_here (Linked number) new refusal below found noted = absurd (cc (noted.1))
-    told_here Unlinked new refusal below found noted = absurd (cc (noted.1))
-    told_here Unequal new refusal below found noted = absurd (cc (noted.1))
-    told_here Mismatch new refusal below found noted = absurd (cc (noted.1))
-    told_here TooLarge new refusal below found noted =
-        let e : refusal ≡ BoundTooLarge (place_at t i) = cc in
-        subst (IsTold traces) (sym e) (first_of_kind traces (BoundTooLarge (place_at t i)) found below least)
-      where
-        least : (other : LinkError) → IsRefused traces other → (rank_of other).0 ≡ 5 → NotAfter t i (rank_of other).1 (rank_of other).2
-        least (BoundTooLarge place) refused same = first_is_least (IsBoundTooLarge traces) (place_at t i) place so_far.fit refused
-        least other refused same = absurd (omega arith)
-
 -- rows of links
 pub row_start : (traces : TraceLists) (t : ℕ) → IsRowUpTo traces t 0 []
 row_start traces t = record { count = refl; each = λ i below. absurd (omega arith) }
@@ -231,14 +196,6 @@ module _ (traces : TraceLists) (threads : ℕ) (misfits : Misfits) (all_threads 
       absent (BoundTooLarge place) refused same = fit place refused
       absent other refused same = absurd (omega arith)
 
-  -- the first unequal read is told
-  told_unequal : (found : Place) → IsFirstBefore (IsUnequal traces) (place_at threads 0) (Some found) → IsFirstRefusal traces (NoEqualWrite found)
-  told_unequal found first = first_of_kind traces (NoEqualWrite found) first.0 none_below_six least
-    where
-      least : (other : LinkError) → IsRefused traces other → (rank_of other).0 ≡ 6 → NotAfter found.thread found.place (rank_of other).1 (rank_of other).2
-      least (NoEqualWrite place) refused same = first_is_least (IsUnequal traces) found place first.1 refused
-      least other refused same = absurd (omega arith)
-
   equal : IsFirstBefore (IsUnequal traces) (place_at threads 0) None → (place : Place) → IsUnequal traces place → ⊥
   equal none place b = none place (inl (omega (arith, all_threads, (at_read traces place b.cell b.value b.bound b.reads).1))) b
 
@@ -248,19 +205,6 @@ module _ (traces : TraceLists) (threads : ℕ) (misfits : Misfits) (all_threads 
       absent : (other : LinkError) → IsRefused traces other → (rank_of other).0 ≡ 6 → ⊥
       absent (NoEqualWrite place) refused same = equal none place refused
       absent other refused same = absurd (omega arith)
-
-  told_mismatch : (found : Place) → IsFirstBefore (IsUnequal traces) (place_at threads 0) None → IsFirstBefore (IsMismatch traces) (place_at threads 0) (Some found) → IsFirstRefusal traces (UpdateMismatch found)
-  told_mismatch found none first = first_of_kind traces (UpdateMismatch found) first.0 (none_below_seven none) least
-    where
-      least : (other : LinkError) → IsRefused traces other → (rank_of other).0 ≡ 7 → NotAfter found.thread found.place (rank_of other).1 (rank_of other).2
-      least (UpdateMismatch place) refused same = first_is_least (IsMismatch traces) found place first.1 refused
-      least other refused same = absurd (omega arith)
-
-  -- what is told is the first refusal
-  pub told_end : (unequal mismatch : Option Place) (refusal : LinkError) → IsFirstBefore (IsUnequal traces) (place_at threads 0) unequal → IsFirstBefore (IsMismatch traces) (place_at threads 0) mismatch → told_by unequal mismatch ≡ Err refusal → IsTold traces refusal
-  told_end (Some found) mismatch refusal first second is = let e : NoEqualWrite found ≡ refusal = cc in subst (IsTold traces) e (told_unequal found first)
-  told_end None (Some found) refusal first second is = let e : UpdateMismatch found ≡ refusal = cc in subst (IsTold traces) e (told_mismatch found first second)
-  told_end None None refusal first second is = absurd (cc)
 
   none_refused : IsFirstBefore (IsUnequal traces) (place_at threads 0) None → IsFirstBefore (IsMismatch traces) (place_at threads 0) None → (refusal : LinkError) → IsRefused traces refusal → ⊥
   none_refused none second (UpdateMismatch place) refused = second place (inl (omega (arith, all_threads, (inside traces place read_of _ refused.updates.met).1))) refused
@@ -290,10 +234,10 @@ module _ (traces : TraceLists) (threads : ℕ) (misfits : Misfits) (all_threads 
       others = λ place none.
           elim (cases_lt place.thread threads) [
             | inl less ↦
-              elim (cases_lt place.place (length (events_of traces place.thread))) [
-                | inl under ↦ ((linked.each place.thread less).each place.place under).unread none
-                | inr past ↦ get_or_past (links_of rows place.thread) place.place None (omega (arith, past, counts place.thread))
-              ]
+                elim (cases_lt place.place (length (events_of traces place.thread))) [
+                  | inl under ↦ ((linked.each place.thread less).each place.place under).unread none
+                  | inr past ↦ get_or_past (links_of rows place.thread) place.place None (omega (arith, past, counts place.thread))
+                ]
             | inr past ↦ (
                 let e : links_of rows place.thread ≡ [] = get_or_past rows place.thread [] (omega (arith, past, linked.count)) in
                 ap (λ row. get_or row place.place None) e)

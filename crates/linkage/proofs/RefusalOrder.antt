@@ -1,6 +1,5 @@
 -- The order of refusals, kind by kind.
 use Rattle.std.proofs.Common.{◌≡◌, ℕ, ◌+◌, ◌<◌, ◌≤◌, ◌⊎◌, inl, inr, arith}
-use Rattle.std.specs.Prelude.{Option}
 use Rattle.std.proofs.Math.Nat.{eq-or-lt_of_le}
 use Rattle.stride_base.specs.Ascending.{Triple, Before}
 use Rattle.interleavings.specs.TraceLists.{TraceLists}

@@ -1,18 +1,17 @@
 -- Where no number is twice there or left out, an item stands behind the first of its owner by its number.
-use Rattle.std.proofs.Common.{◌≡◌, ◌∙◌, ℕ, zero, suc, ◌+◌, ◌-◌, ◌*◌, ◌<◌, ◌≤◌, ◌≢◌, ◌⊎◌, inl, inr, List, [], ◌∷◌, length, get_or, set, refl, sym, ap, subst, arith, add-one, add-zero, get_or-set_same, get_or-set_other}
-use Rattle.std.specs.Prelude.{Option, Some, None, slice_get, slice_index}
+use Rattle.std.proofs.Common.{◌≡◌, ◌∙◌, ℕ, zero, suc, ◌+◌, ◌*◌, ◌<◌, ◌≤◌, ◌⊎◌, inl, inr, List, [], ◌∷◌, length, get_or, set, refl, sym, ap, subst, arith, add-zero, get_or-set_same, get_or-set_other}
+use Rattle.std.specs.Prelude.{Some, None, slice_get, slice_index}
 use Rattle.std.proofs.Math.Nat.{eq-or-lt_of_le}
 use Rattle.std.proofs.lemmas.Bool.{cases_eq, cases_lt}
 use Rattle.std.proofs.lemmas.List.{length-set}
-use Rattle.std.proofs.lemmas.Option.{slice_get-get_or, slice_get_within}
+use Rattle.std.proofs.lemmas.Option.{slice_get_within}
 use Rattle.stride_isa.specs.Limits.{cell_limit, fuel_limit, thread_limit}
 use Rattle.interleavings.specs.TraceLists.{TraceLists}
 use Rattle.linkage.specs.declared.numbered.Numbered.{Numbered}
 use Rattle.linkage.specs.declared.row.Row.{Row}
 use Rattle.linkage.specs.AllOf.{IsAllOf, WriteGiven}
-use Rattle.linkage.specs.Checking.{AreFirstsBelow, IsInRow, IsRow}
-use Rattle.linkage.specs.Numbers.{NotAfter, IsItemAt, IsOrdered, IsTwice, IsFirstTwice, AreOwned, AreStarted, AreGreatest, IsGap, IsFirstGap}
-use Rattle.linkage.specs.Sources.{Stored}
+use Rattle.linkage.specs.Checking.{AreFirstsBelow, IsRow}
+use Rattle.linkage.specs.Numbers.{NotAfter, IsItemAt, IsOrdered, IsFirstTwice, AreOwned, AreStarted, AreGreatest, IsFirstGap}
 use Rattle.linkage.proofs.GapLists.{item_same}
 use Rattle.linkage.proofs.NumberChecks.{stored_listed, listed_stored, started_writes}
 use Rattle.linkage.proofs.NumberedLists.{one_item, item_there, item_inside}

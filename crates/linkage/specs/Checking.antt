@@ -1,5 +1,5 @@
 -- What contracts see of the checks of numbers and turns.
-use Rattle.std.specs.Prelude.{◌≡◌, ℕ, ◌+◌, ◌*◌, ◌<◌, ◌≤◌, List, Option, Some, None, Result, Ok, Err, length, slice_get, slice_index}
+use Rattle.std.specs.Prelude.{◌≡◌, ℕ, ◌+◌, ◌*◌, ◌<◌, ◌≤◌, List, Some, None, Result, Ok, Err, length, slice_get, slice_index}
 use Rattle.stride_isa.specs.Limits.{cell_limit, fuel_limit, thread_limit}
 use Rattle.interleavings.specs.TraceLists.{TraceLists}
 use Rattle.linkage.specs.declared.link_error.LinkError.{LinkError}

@@ -1,5 +1,5 @@
 -- What contracts see of all writes and turns while they are gathered.
-use Rattle.std.specs.Prelude.{◌≡◌, ℕ, ◌+◌, ◌*◌, ◌≤◌, List, [], ◌∷◌, ◌++◌, Option, Some, None, length}
+use Rattle.std.specs.Prelude.{◌≡◌, ℕ, ◌+◌, ◌*◌, ◌≤◌, [], ◌∷◌, ◌++◌, Option, Some, None, length}
 use Rattle.stride_isa.specs.Limits.{cell_limit, fuel_limit, monitor_limit, thread_limit}
 use Rattle.interleavings.specs.declared.event.Event.{Event}
 use Rattle.interleavings.specs.declared.event.Event.TheVariants.{Read, Write, Update, Enter, Exit}
@@ -8,7 +8,7 @@ use Rattle.interleavings.specs.TraceLists.{TraceLists}
 use Rattle.linkage.specs.declared.gathered.Gathered.{Gathered}
 use Rattle.linkage.specs.declared.numbered.Numbered.{Numbered}
 use Rattle.linkage.specs.AllOf.{IsAllOf, WriteGiven}
-use Rattle.linkage.specs.Numbers.{AreOwned, AreStarted, Earlier}
+use Rattle.linkage.specs.Numbers.{AreOwned, Earlier}
 use Rattle.linkage.specs.Sources.{IsEntryAt, IsExitAt}
 
 abbrev pub place_at : ℕ → ℕ → Place

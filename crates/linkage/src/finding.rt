@@ -65,7 +65,10 @@ pub(crate) fn link_event<L: Ledger>(
             }
         }
         Event::Update {
-            cell, old, number, ..
+            cell,
+            old,
+            number,
+            ..
         } => {
             if is_old_stored(&finder.row, traces, cell, old, number) {
                 Ok(Finding::Unlinked)

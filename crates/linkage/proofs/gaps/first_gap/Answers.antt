@@ -1,5 +1,5 @@
-use Rattle.std.proofs.Common.{◌≡◌, ◌<◌, ◌∙◌, ap, length, sym, subst, refl, arith}
-use Rattle.std.specs.Prelude.{Option, Some, slice_get, slice_index}
+use Rattle.std.proofs.Common.{◌∙◌, ap, sym, subst, arith}
+use Rattle.std.specs.Prelude.{Option, Some}
 use Rattle.std.proofs.lemmas.Option.{slice_get-get_or}
 use Rattle.linkage.specs.declared.numbered.Numbered.{Numbered}
 use Rattle.linkage.specs.Numbers.{IsFollowed}

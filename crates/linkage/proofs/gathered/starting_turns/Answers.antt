@@ -1,4 +1,4 @@
-use Rattle.std.proofs.Common.{◌≡◌, ◌+◌, ℕ, refl, subst, arith}
+use Rattle.std.proofs.Common.{ℕ, refl, subst, arith}
 use Rattle.linkage.specs.AllOf.{TurnZero, AreStartingTurns}
 use Rattle.linkage.proofs.AllOfLists.{starts_more}
 use Rattle.linkage.proofs.Frontier.{same_numbered}

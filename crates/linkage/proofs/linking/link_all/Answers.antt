@@ -1,8 +1,7 @@
-use Rattle.std.proofs.Common.{◌≡◌, ◌≤◌, ◌∙◌, ◌+◌, ◌*◌, ℕ, ap, sym, subst, map, take, refl, length, [], arith}
-use Rattle.std.specs.List.{sum_by}
-use Rattle.std.proofs.lemmas.List.{map-append, take_all}
+use Rattle.std.proofs.Common.{◌≡◌, sym, map, length, [], arith}
+use Rattle.std.proofs.lemmas.List.{map-append}
 use Rattle.std.proofs.lemmas.List.Sums.{sum_by_more, sum_by_more_le}
-use Rattle.linkage.proofs.Progress.{progress_start, rows_start, rows_step, told_end, whole_end}
+use Rattle.linkage.proofs.Progress.{rows_step, whole_end}
 use Rattle.linkage.proofs.linking.link_all.Goals as goal
 
 pub returns-in_err-link_thread-clause-looks : goal.returns-in_err-link_thread-clause-looks

@@ -1,11 +1,8 @@
-use Rattle.std.proofs.Common.{◌≡◌, ◌≤◌, ◌∙◌, ◌+◌, ℕ, ap, sym, subst, arith}
-use Rattle.std.specs.Prelude.{Option, Result, Some}
-use Rattle.std.proofs.lemmas.Option.{slice_get-get_or}
-use Rattle.interleavings.specs.TraceLists.{events_of}
+use Rattle.std.proofs.Common.{ℕ, subst, arith}
+use Rattle.std.specs.Prelude.{Option, Result}
 use Rattle.linkage.specs.declared.link_error.LinkError.{LinkError}
 use Rattle.linkage.specs.GatherShows.{place_at}
 use Rattle.linkage.specs.Misfitting.{IsNoted}
-use Rattle.linkage.specs.Sources.{event_at}
 use Rattle.linkage.proofs.Progress.{progress_step, progress_next, link_here, row_step}
 use Rattle.linkage.proofs.linking.link_thread.Goals as goal
 

@@ -1,4 +1,4 @@
-use Rattle.std.proofs.Common.{◌≡◌, ◌-◌, sym, ◌∙◌, arith}
+use Rattle.std.proofs.Common.{◌-◌, arith}
 use Rattle.linkage.proofs.NumberedLists.{item_read, none_twice, found_twice, apart_step}
 use Rattle.linkage.proofs.numbered.first_twice.Goals as goal
 use Rattle.linkage.proofs.numbered.first_twice.Goals.{else-before-item-via-then-before-item+else-before-item-2, else-before-item-via-else-before-item}

@@ -1,4 +1,4 @@
-use Rattle.std.proofs.Common.{◌≡◌, ◌<◌, ◌∙◌, ℕ, ap, subst, sym, length, slice_index_or, arith}
+use Rattle.std.proofs.Common.{◌∙◌, ℕ, ap, subst, length, slice_index_or, arith}
 use Rattle.std.proofs.lemmas.List.{length-replicate}
 use Rattle.std.proofs.lemmas.Option.{slice_get-get_or}
 use Rattle.linkage.specs.declared.numbered.Numbered.{Numbered}

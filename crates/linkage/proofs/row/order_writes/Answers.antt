@@ -1,11 +1,10 @@
-use Rattle.std.proofs.Common.{◌≡◌, ◌<◌, ◌≤◌, ◌∙◌, ◌+◌, ◌*◌, ℕ, ap, refl, subst, sym, length, arith}
+use Rattle.std.proofs.Common.{◌≡◌, ◌≤◌, ◌∙◌, ◌+◌, ◌*◌, ℕ, ap, refl, subst, sym, length, arith}
 use Rattle.std.specs.Prelude.{List, None}
 use Rattle.std.proofs.lemmas.List.Sorted.{length_permutation}
 use Rattle.stride_isa.specs.Limits.{cell_limit, fuel_limit, thread_limit}
-use Rattle.linkage.specs.declared.numbered.Numbered.{Numbered}
-use Rattle.linkage.specs.AllOf.{IsAllOf, WriteGiven}
+use Rattle.linkage.specs.AllOf.{WriteGiven}
 use Rattle.linkage.specs.Checking.{AreFirstsBelow}
-use Rattle.linkage.specs.Numbers.{AreGreatest, AreStarted, IsFirstGap}
+use Rattle.linkage.specs.Numbers.{AreGreatest, IsFirstGap}
 use Rattle.linkage.proofs.Moved.{sorted_all, sorted_owned, sorted_ordered}
 use Rattle.linkage.proofs.NumberChecks.{started_writes, first_twice_written, none_written_twice, first_write_gap, no_write_gap}
 use Rattle.linkage.proofs.Rows.{row_of}

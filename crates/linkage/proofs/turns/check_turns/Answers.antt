@@ -1,7 +1,5 @@
-use Rattle.std.proofs.Common.{◌≡◌, ◌<◌, ◌≤◌, ◌∙◌, ℕ, ap, refl, subst, sym, length, arith}
-use Rattle.std.specs.Prelude.{List, None, Some}
-use Rattle.linkage.specs.declared.numbered.Numbered.{Numbered}
-use Rattle.linkage.specs.AllOf.{IsAllOf}
+use Rattle.std.proofs.Common.{◌≡◌, ◌∙◌, ℕ, ap, refl, subst, sym, length}
+use Rattle.std.specs.Prelude.{List}
 use Rattle.linkage.specs.GatherShows.{EntryGiven, ExitGiven}
 use Rattle.linkage.specs.Numbers.{AreGreatest}
 use Rattle.linkage.proofs.Moved.{sorted_all, sorted_owned, sorted_ordered}

@@ -1,4 +1,4 @@
-use Rattle.std.proofs.Common.{◌≡◌, ◌-◌, arith}
+use Rattle.std.proofs.Common.{◌-◌, arith}
 use Rattle.linkage.proofs.Finds.{link_from_index, few_looks}
 use Rattle.linkage.proofs.finder.Finder.look_up.Goals as goal
 
