@@ -1,0 +1,13 @@
+pub mod AllOf
+pub mod Answers
+pub mod Checking
+pub mod Finding
+pub mod GatherShows
+pub mod Indexing
+pub mod Laws
+pub mod Links
+pub mod Looking
+pub mod Misfitting
+pub mod Numbers
+pub mod Refusals
+pub mod Sources

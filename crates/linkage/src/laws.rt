@@ -1,0 +1,17 @@
+//! Laws of links and of refusals, over the definitions alone. Each is the contract of a function that does nothing.
+ghost use Rattle.linkage.specs.Laws.{OneFirstRefusal, OneLink, OneLinking};
+
+/// A read has one link at most.
+pub fn one_link()
+    ensures { OneLink }
+{}
+
+/// Events have one list of links at most.
+pub fn one_linking()
+    ensures { OneLinking }
+{}
+
+/// Events have one first refusal at most.
+pub fn one_first_refusal()
+    ensures { OneFirstRefusal }
+{}
