@@ -1,0 +1,18 @@
+use Rattle.std.proofs.Common.{◌≡◌, ◌≤◌, [], length, arith, ap, sym, ◌∙◌}
+use Rattle.std.proofs.lemmas.List.{get_or-map, length-map}
+use Rattle.stride_isa.specs.declared.limits.TheConstants.{FUEL_LIMIT}
+use Rattle.event_order.specs.Deeds.{size}
+use Rattle.event_order.specs.Tables.{rows_of}
+use Rattle.event_order.proofs.deeds.Deeds.count.Goals as goal
+
+pub overflow_cast-result : goal.overflow_cast-result
+overflow_cast-result c =
+    let there = simp length-map at (rw (← c.self.view_is) at c.requires) in
+    let row : size (rows_of c.self.inside.rows.items) c.args.thread ≡ length c.index.result.now.items = ap length (get_or-map (λ row. row.items) c.self.inside.rows.items c.args.thread c.index.result.now [] there ∙ ap (λ row. row.items) (sym c.index.ensures)) in
+    omega (arith, c.self.invariant.1 c.args.thread)
+
+pub returns-clause-small : goal.returns-clause-small
+returns-clause-small c =
+    let there = simp length-map at (rw (← c.self.view_is) at c.requires) in
+    let row : size (rows_of c.self.inside.rows.items) c.args.thread ≡ length c.index.result.now.items = ap length (get_or-map (λ row. row.items) c.self.inside.rows.items c.args.thread c.index.result.now [] there ∙ ap (λ row. row.items) (sym c.index.ensures)) in
+    omega (arith, c.self.invariant.1 c.args.thread)

@@ -1,0 +1,11 @@
+pub mod Answers
+pub mod Backs
+pub mod Cycles
+pub mod Deeds
+pub mod DirectOrder
+pub mod Extensions
+pub mod Fronts
+pub mod Laws
+pub mod Least
+pub mod Sums
+pub mod Tables

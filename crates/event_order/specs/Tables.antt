@@ -1,0 +1,21 @@
+-- What a table keeps for slots.
+use Rattle.std.specs.Prelude.{◌≡◌, ℕ, ◌==◌, ◌&&◌, Bool, false, List, [], map, Option, Some, None, unwrap_or, slice_get}
+use Rattle.std.specs.Prelude.{Vec, slice_index_or}
+use Rattle.event_order.specs.declared.slot.Slot.{Slot}
+
+-- whether two slots are the same
+abbrev pub same_slot : Slot → Slot → Bool
+same_slot a b = (a.row == b.row) && (a.number == b.number)
+
+-- the lists of vectors
+abbrev pub rows_of : {X Z : Type 0} → List (Vec X Z) → List (List X)
+rows_of rows = map (λ row. row.items) rows
+
+-- what is kept for a slot, if anything is
+abbrev pub entry : {X : Type 0} → List (List (Option X)) → Slot → Option X
+entry rows slot = slice_index_or (slice_index_or rows slot.row []) slot.number None
+
+-- the value is kept for the slot, and for each other slot what was kept before
+pub record IsPut {X : Type 0} (old : Slot → Option X) (slot : Slot) (value : X) (new : Slot → Option X) : Type 0 where
+  pub here : new slot ≡ Some value
+  pub others : (other : Slot) → same_slot slot other ≡ false → new other ≡ old other

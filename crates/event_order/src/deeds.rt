@@ -1,0 +1,111 @@
+//! `Deeds`: what all events are to the order. Each event and its link are looked at once.
+ghost use Rattle.std.specs.Prelude.{◌≡◌, ℕ, ◌+◌, ◌*◌, ◌<◌, ◌≤◌, length, sum_by, IfOk};
+ghost use Rattle.interleavings.specs.TraceLists.{events_of};
+ghost use Rattle.linkage.specs.Sources.{event_count};
+ghost use Rattle.event_order.specs.Deeds.{deed_at, gives_at, size, AreRowsOf, IsFit, IsRowOf};
+
+use crate::deed::Deed;
+use crate::slot::Slot;
+use interleavings::{Place, Traces};
+use linkage::Links;
+use std::alloc::Global;
+use std::marker::Model;
+use std::sync::ledger::Ledger;
+use stride_base::{NoMemory, Steps};
+use stride_isa::limits::FUEL_LIMIT;
+
+/// What the events of each thread are to the order. It is seen as a list for each thread.
+#[derive(Drop)]
+pub(crate) struct Deeds {
+    rows: Vec<Vec<Deed>>,
+}
+
+impl Model for Deeds {
+    ghost use Rattle.std.specs.Prelude.{ℕ, ◌≤◌, List, length};
+    ghost use Rattle.stride_isa.specs.declared.limits.TheConstants.{FUEL_LIMIT};
+    ghost use Rattle.event_order.specs.declared.deed.Deed.{Deed};
+    ghost use Rattle.event_order.specs.Deeds.{size as count_of};
+    ghost use Rattle.event_order.specs.Tables.{rows_of};
+
+    ghost Value = { List (List Deed) };
+
+    ghost view = { λ deeds. rows_of deeds.rows.items };
+
+    ghost invariant = { λ deeds. (length deeds.rows.items ≤ 16) × ((thread : ℕ) → count_of (rows_of deeds.rows.items) thread ≤ FUEL_LIMIT) };
+}
+
+// What the events of a thread are to the order.
+fn row_of<L: Ledger>(
+    alloc: Global,
+    traces: &Traces,
+    links: &Links,
+    thread: u32,
+    steps: &mut Steps<L>,
+) -> Result<Vec<Deed>, NoMemory>
+    requires thread { thread < length traces.now.events }
+    requires fit { IsFit traces.now links.now }
+    ensures deeds { IfOk result (λ row. IsRowOf traces.now links.now thread (length (events_of traces.now thread)) row.items) }
+    ensures few { IfOk result (λ row. length row.items ≤ FUEL_LIMIT) }
+    ensures looks { steps.new ≤ steps.old + 2 * length (events_of traces.now thread) }
+{
+    let mut row = Vec::new(alloc);
+    for place in 0..traces.count(thread) {
+        let event = traces.at(thread, place, steps);
+        let link = links.of(Place { thread, place }, steps);
+        row.push(Deed::of(event, link))?;
+    }
+    Ok(row)
+}
+
+impl Deeds {
+    /// What the events of traces are to the order, by their links.
+    pub(crate) fn of<L: Ledger>(
+        alloc: Global,
+        traces: &Traces,
+        links: &Links,
+        steps: &mut Steps<L>,
+    ) -> Result<Deeds, NoMemory>
+        requires fit { IsFit traces.now links.now }
+        ensures deeds { IfOk result (λ deeds. AreRowsOf traces.now links.now (length traces.now.events) deeds) }
+        ensures looks { steps.new ≤ steps.old + 2 * event_count traces.now }
+    {
+        let mut rows = Vec::new(alloc);
+        for thread in 0..traces.threads() {
+            rows.push(row_of(alloc, traces, links, thread, steps)?)?;
+        }
+        Ok(Deeds { rows })
+    }
+
+    /// How many threads there are.
+    pub(crate) fn threads(&self) -> u32
+        ensures count { result ≡ length self.now }
+        ensures small { result ≤ 16 }
+        ensures few { (thread : ℕ) → size self.now thread ≤ FUEL_LIMIT }
+    {
+        self.rows.len() as u32
+    }
+
+    /// How many events a thread has.
+    pub(crate) fn count(&self, thread: u32) -> u32
+        requires { thread < length self.now }
+        ensures count { result ≡ size self.now thread }
+        ensures small { result ≤ FUEL_LIMIT }
+    {
+        self.rows[thread as usize].len() as u32
+    }
+
+    /// What the event at a place is to the order, if one is there.
+    pub(crate) fn at(&self, place: Place) -> Option<Deed>
+        ensures { result ≡ deed_at self.now place }
+    {
+        let row = self.rows.get(place.thread as usize)?;
+        row.get(place.place as usize).copied()
+    }
+
+    /// The slot that the event at a place fills, if it fills one.
+    pub(crate) fn gives(&self, place: Place) -> Option<Slot>
+        ensures { result ≡ gives_at self.now place }
+    {
+        self.at(place)?.gives()
+    }
+}

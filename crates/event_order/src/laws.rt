@@ -1,0 +1,36 @@
+//! Laws of the direct order, over its definitions alone. Each is the contract of a function that does nothing but cite laws
+//! of the crates below.
+ghost use Rattle.event_order.specs.Laws.{CyclesExclude, ExtensionsAreRuns, OneCycle, OneLeast};
+
+use interleavings::{exits_end_enters, followed_walks};
+use sc_machine::{replay_along_turns, starts_settle, turn_by_stop};
+
+/// The thread numbers of any extension of the direct order are a schedule, by whose run each thread makes exactly its
+/// events, with the output and the end that following its log gives.
+pub fn extensions_are_runs()
+    ensures { ExtensionsAreRuns }
+{
+    exits_end_enters();
+    followed_walks();
+    replay_along_turns();
+    starts_settle();
+    turn_by_stop();
+}
+
+/// Where there is a cycle there is no extension.
+pub fn cycles_exclude()
+    ensures { CyclesExclude }
+{
+}
+
+/// There is one least schedule at most.
+pub fn one_least()
+    ensures { OneLeast }
+{
+}
+
+/// There is one cycle at most that is told.
+pub fn one_cycle()
+    ensures { OneCycle }
+{
+}
