@@ -1,7 +1,6 @@
 -- What holds of the direct order, whatever the program and the logs are.
-use Rattle.std.specs.Prelude.{◌≡◌, ℕ, ◌≤◌, ◌<◌, List, length, map, Ok, Some}
+use Rattle.std.specs.Prelude.{◌≡◌, ℕ, ◌≤◌, List, length, map, Ok, Some}
 use Rattle.stride_isa.specs.Listing.{Listing, starts_of}
-use Rattle.sc_machine.specs.ThreadStep.{Thread}
 use Rattle.sc_machine.specs.Machine.{Machine}
 use Rattle.sc_machine.specs.Schedule.{replayed}
 use Rattle.interleavings.specs.declared.event.Event.{Event}

@@ -20,17 +20,14 @@ pub fn extensions_are_runs()
 /// Where there is a cycle there is no extension.
 pub fn cycles_exclude()
     ensures { CyclesExclude }
-{
-}
+{}
 
 /// There is one least schedule at most.
 pub fn one_least()
     ensures { OneLeast }
-{
-}
+{}
 
 /// There is one cycle at most that is told.
 pub fn one_cycle()
     ensures { OneCycle }
-{
-}
+{}

@@ -11,6 +11,8 @@ mod laws;
 mod order_error;
 mod slot;
 mod table;
+#[cfg(test)]
+mod tests;
 mod turning;
 mod walking;
 
