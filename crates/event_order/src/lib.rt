@@ -17,5 +17,5 @@ mod turning;
 mod walking;
 
 pub use arranging::arrange;
-pub use laws::{cycles_exclude, extensions_are_runs, one_cycle, one_least};
+pub use laws::{cycles_exclude, extensions_are_runs, least_or_cycle, one_cycle, one_least};
 pub use order_error::OrderError;
