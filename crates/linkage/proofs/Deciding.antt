@@ -54,7 +54,7 @@ module _ (P : ℕ → Type 0) where
 
   module _ (known : (i : ℕ) → Known (P i)) where
     -- below a bound there is a least number, or none
-    least_below : (n : ℕ) → ((i : ℕ) × (i < n) × IsLeastNumber i) ⊎ ((i : ℕ) → i < n → P i → ⊥)
+    pub least_below : (n : ℕ) → ((i : ℕ) × (i < n) × IsLeastNumber i) ⊎ ((i : ℕ) → i < n → P i → ⊥)
     least_below zero = inr (λ i small. absurd (omega arith))
     least_below (suc n) = elim (least_below n) [
       | inl found ↦ inl (found.0, (let small = found.1 in omega arith), found.2)
@@ -80,6 +80,14 @@ module _ (P : ℕ → Type 0) where
       | inl found ↦ inl (found.0, found.2)
       | inr none ↦ inr (λ i is. none i (under i is) is)
     ]
+
+    -- such a least number is there or not
+    pub known_least : (most : ℕ) → ((i : ℕ) → P i → i < most) → Known ((i : ℕ) × IsLeastNumber i)
+    known_least most under = elim (least_under most under) [ inl least ↦ inl least | inr none ↦ inr (λ least. none least.0 least.1.holds) ]
+
+    -- where there is one there is a least
+    pub some_least : (most : ℕ) → ((i : ℕ) → P i → i < most) → (i : ℕ) → P i → (j : ℕ) × IsLeastNumber j
+    some_least most under i is = elim (least_under most under) [ inl least ↦ least | inr none ↦ absurd (none i is) ]
 
     -- within a bound there is a greatest number, or none
     pub greatest_within : (n : ℕ) → ((i : ℕ) × IsGreatestWithin n i) ⊎ ((i : ℕ) → i ≤ n → P i → ⊥)

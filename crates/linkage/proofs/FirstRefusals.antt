@@ -10,7 +10,7 @@ use Rattle.linkage.specs.Refusals.{IsFirstRefusal, IsRefused, rank_of}
 use Rattle.linkage.specs.GatherShows.{place_at}
 use Rattle.linkage.specs.Sources.{event_at}
 use Rattle.linkage.proofs.Bounds.{IsBound}
-use Rattle.linkage.proofs.Deciding.{IsLeastNumber, Known, least_under}
+use Rattle.linkage.proofs.Deciding.{IsLeastNumber, Known, known_least, least_under, some_least}
 use Rattle.linkage.proofs.Frontier.{inside}
 use Rattle.linkage.proofs.KnownRefusals.{known_refused}
 
@@ -66,37 +66,45 @@ module _ (traces : TraceLists) where
     rank_below (suc (suc (suc (suc (suc (suc (suc zero))))))) a b refused = let small = place_below a b refused.cell refused.old refused.updates.met in record { kind_small = omega arith; first_small = small.0; second_small = small.1; rank = refl }
     rank_below (suc (suc (suc (suc (suc (suc (suc (suc kind)))))))) a b refused = absurd refused
 
+    -- whether the refusal of a rank is so is known
+    known_at : (kind a b : ℕ) → Known (IsRefusedAt kind a b)
+    known_at kind a b = known_refused traces most bound_is (refusal_at kind a b)
+
     -- the least second number of a rank of this kind and first number
     abbrev LeastSecond : ℕ → ℕ → Type 0
     LeastSecond kind a = (b : ℕ) × IsLeastNumber (IsRefusedAt kind a) b
 
-    -- there is one, or no such rank
-    least_second : (kind a : ℕ) → LeastSecond kind a ⊎ ((b : ℕ) → IsRefusedAt kind a b → ⊥)
-    least_second kind a = least_under (IsRefusedAt kind a) (λ b. known_refused traces most bound_is (refusal_at kind a b)) most (λ b refused. (rank_below kind a b refused).second_small)
-
-    -- that is known
-    known_second : (kind a : ℕ) → Known (LeastSecond kind a)
-    known_second kind a = elim (least_second kind a) [ inl least ↦ inl least | inr none ↦ inr (λ least. none least.0 least.1.holds) ]
-
-    -- where there is such a rank there is a least
-    some_second : (kind a b : ℕ) → IsRefusedAt kind a b → LeastSecond kind a
-    some_second kind a b refused = elim (least_second kind a) [ inl least ↦ least | inr none ↦ absurd (none b refused) ]
+    -- second numbers are below the bound
+    seconds_small : (kind a b : ℕ) → IsRefusedAt kind a b → b < most
+    seconds_small kind a b refused = (rank_below kind a b refused).second_small
 
     -- the least first number of a rank of this kind
     abbrev LeastFirst : ℕ → Type 0
     LeastFirst kind = (a : ℕ) × IsLeastNumber (LeastSecond kind) a
 
-    -- there is one, or no such rank
-    least_first : (kind : ℕ) → LeastFirst kind ⊎ ((a : ℕ) → LeastSecond kind a → ⊥)
-    least_first kind = least_under (LeastSecond kind) (known_second kind) most (λ a least. (rank_below kind a least.0 least.1.holds).first_small)
+    -- whether there is a least second number is known
+    known_second : (kind a : ℕ) → Known (LeastSecond kind a)
+    known_second kind a = known_least (IsRefusedAt kind a) (known_at kind a) most (seconds_small kind a)
 
-    -- that is known
+    -- where there is one there is a least
+    some_second : (kind a b : ℕ) → IsRefusedAt kind a b → LeastSecond kind a
+    some_second kind a = some_least (IsRefusedAt kind a) (known_at kind a) most (seconds_small kind a)
+
+    -- first numbers are below the bound
+    firsts_small : (kind a : ℕ) → LeastSecond kind a → a < most
+    firsts_small kind a least = (rank_below kind a least.0 least.1.holds).first_small
+
+    -- whether there is a least first number is known
     known_first : (kind : ℕ) → Known (LeastFirst kind)
-    known_first kind = elim (least_first kind) [ inl least ↦ inl least | inr none ↦ inr (λ least. none least.0 least.1.holds) ]
+    known_first kind = known_least (LeastSecond kind) (known_second kind) most (firsts_small kind)
 
-    -- where there is such a rank there is a least
+    -- where there is one there is a least
     some_first : (kind a b : ℕ) → IsRefusedAt kind a b → LeastFirst kind
-    some_first kind a b refused = elim (least_first kind) [ inl least ↦ least | inr none ↦ absurd (none a (some_second kind a b refused)) ]
+    some_first kind a b refused = some_least (LeastSecond kind) (known_second kind) most (firsts_small kind) a (some_second kind a b refused)
+
+    -- kinds are few
+    kinds_small : (kind : ℕ) → LeastFirst kind → kind < 8
+    kinds_small kind least = (rank_below kind least.0 least.1.holds.0 least.1.holds.1.holds).kind_small
 
     -- no rank at which something is refused stands before the least
     none_before : (kind : ℕ) (least : IsLeastNumber LeastFirst kind) (other a b : ℕ) → IsRefusedAt other a b → Before (other, a, b) (kind, least.holds.0, least.holds.1.holds.0) → ⊥
@@ -111,7 +119,7 @@ module _ (traces : TraceLists) where
 
     -- something is refused first, or nothing is refused
     pub first_or_none : ((refusal : LinkError) × IsFirstRefusal traces refusal) ⊎ ((refusal : LinkError) → IsRefused traces refusal → ⊥)
-    first_or_none = elim (least_under LeastFirst known_first 8 (λ kind least. (rank_below kind least.0 least.1.holds.0 least.1.holds.1.holds).kind_small)) [
+    first_or_none = elim (least_under LeastFirst known_first 8 kinds_small) [
       | inr none ↦ inr (λ refusal refused. none (rank_of refusal).0 (some_first (rank_of refusal).0 (rank_of refusal).1 (rank_of refusal).2 (at_rank refusal refused)))
       | inl found ↦
           let kind = found.0 in
