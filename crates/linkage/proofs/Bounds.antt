@@ -23,7 +23,7 @@ above_all f (suc n) =
       record {
         each = λ i small. elim (cases_lt i n) [
           | inl before ↦ let most = rest.1.each i before in omega arith
-          | inr last ↦ let same : f i ≡ f n = ap f (let here : i ≡ n = omega arith in here) in omega arith
+          | inr last ↦ let same : f i ≡ f n = ap f (omega arith) in omega arith
         ];
       },
     )

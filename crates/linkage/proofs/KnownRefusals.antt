@@ -41,7 +41,7 @@ module _ (traces : TraceLists) where
     holds : rest cell value bound
 
   -- what is the case of one reading of a place is of another
-  same_reading : (rest : ℕ → ℕ → ℕ → Type 0) (at : Place) (c v b d w k : ℕ) → IsReadAt traces at c v b → IsReadAt traces at d w k → rest c v b → rest d w k
+  pub same_reading : (rest : ℕ → ℕ → ℕ → Type 0) (at : Place) (c v b d w k : ℕ) → IsReadAt traces at c v b → IsReadAt traces at d w k → rest c v b → rest d w k
   same_reading rest at c v b d w k one other holds =
       let read = same_read (record { cell = c; value = v }) (record { cell = d; value = w }) (sym one.met ∙ other.met) in
       let bounds : Some b ≡ Some k = sym one.within ∙ other.within in

@@ -8,8 +8,8 @@ use Rattle.linkage.specs.Misfitting.{AreRowsLinked, IsLinkAt, IsRowUpTo}
 use Rattle.linkage.specs.Refusals.{IsUnequal}
 use Rattle.linkage.specs.Sources.{IsReadAt, Stored, event_at}
 use Rattle.linkage.proofs.Deciding.{greatest_within}
+use Rattle.linkage.proofs.KnownRefusals.{same_reading}
 use Rattle.linkage.proofs.KnownSources.{known_stored}
-use Rattle.linkage.proofs.Parts.{same_read}
 use Rattle.linkage.proofs.Progress.{row_start, row_step, rows_start, rows_step}
 use Rattle.linkage.proofs.Unique.{kinds}
 
@@ -21,16 +21,6 @@ module _ (traces : TraceLists) where
     | inr none ↦ inr none
   ]
 
-  -- the link of one reading of a place is that of another
-  one_link : (at : Place) (c v b d w k number : ℕ) → IsReadAt traces at c v b → IsReadAt traces at d w k → IsLink traces c v b number → IsLink traces d w k number
-  one_link at c v b d w k number one other link =
-      let read = same_read (record { cell = c; value = v }) (record { cell = d; value = w }) (sym one.met ∙ other.met) in
-      let bounds : Some b ≡ Some k = sym one.within ∙ other.within in
-      let bound : b ≡ k = cc in
-      let P : ℕ × ℕ × ℕ → Type 0 = λ t. IsLink traces t.0 t.1 t.2 number in
-      let three : (c, v, b) ≡ (d, w, k) = cc (read.0, read.1, bound) in
-      subst P three link
-
   -- the link of a place
   link_there : (at : Place) → (link : Option ℕ) × IsLinkAt traces at link
   link_there at = elim (kinds (event_at traces at)) [
@@ -41,7 +31,7 @@ module _ (traces : TraceLists) where
           | inl linked ↦ (
             Some linked.0,
             record {
-              read = λ cell value bound reads. inr (linked.0, refl, one_link at found.0 found.1 found.2 cell value bound linked.0 here reads linked.1);
+              read = λ cell value bound reads. inr (linked.0, refl, same_reading traces (λ c v b. IsLink traces c v b linked.0) at found.0 found.1 found.2 cell value bound here reads linked.1);
               unread = λ unread. absurd (let is : Some found.2 ≡ None = sym here.within ∙ unread in cc);
             },
           )
