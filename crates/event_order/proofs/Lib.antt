@@ -1,6 +1,5 @@
 pub mod Answering
 pub mod Counted
-pub mod Deciding
 pub mod Excluding
 pub mod Firsts
 pub mod Fits
@@ -9,6 +8,7 @@ pub mod Greedy
 pub mod Keeping
 pub mod Leading
 pub mod LeastOrCycle
+pub mod LeastPlaces
 pub mod Making
 pub mod Meeting
 pub mod Meets

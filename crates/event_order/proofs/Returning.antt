@@ -5,13 +5,14 @@ use Rattle.std.proofs.lemmas.Bool.{cases_eq, cases_lt, cases_order}
 use Rattle.std.proofs.lemmas.List.{length-drop}
 use Rattle.std.proofs.lemmas.Option.{slice_get_within}
 use Rattle.interleavings.specs.declared.traces.Place.{Place}
+use Rattle.linkage.proofs.Deciding.{Known, known_as, known_both}
 use Rattle.event_order.specs.Backs.{AllRemain, Fills, IsBackOf, IsBefore, IsLeastOf, IsNext, IsTurned, IsWalk, IsWalked, Remains, unmarked_count}
 use Rattle.event_order.specs.Cycles.{AtMost, IsRoundFrom}
 use Rattle.event_order.specs.Deeds.{Needs, NeedsAt, deed_at, gives_at, needs_of, needs_too_of, size}
 use Rattle.event_order.specs.Tables.{IsPut, same_slot}
 use Rattle.event_order.specs.declared.deed.Deed.{Deed}
 use Rattle.event_order.specs.declared.slot.Slot.{Slot}
-use Rattle.event_order.proofs.Deciding.{Known, known_as, known_both, known_either, known_slot, least_place}
+use Rattle.event_order.proofs.LeastPlaces.{known_either, known_slot, least_place}
 use Rattle.event_order.proofs.Firsts.{at_most_same, at_most_through}
 use Rattle.event_order.proofs.Meets.{back_is, mark_less, mark_of, walk_more, walk_start}
 use Rattle.event_order.proofs.Rounds.{round_from}

@@ -1,9 +1,9 @@
 -- What holds of links and refusals, whatever the events are.
-use Rattle.std.specs.Prelude.{◌≡◌, ℕ, List, Option, Result, Err}
+use Rattle.std.specs.Prelude.{◌≡◌, ℕ, ◌⊎◌, List, Option, Result, Err}
 use Rattle.interleavings.specs.TraceLists.{TraceLists}
 use Rattle.linkage.specs.declared.link_error.LinkError.{LinkError}
 use Rattle.linkage.specs.declared.link_error.LinkError.TheVariants.{NoMemory}
-use Rattle.linkage.specs.Answers.{IsAnswer}
+use Rattle.linkage.specs.Answers.{IsAnswer, IsWhole}
 use Rattle.linkage.specs.Links.{IsLink, IsLinked}
 use Rattle.linkage.specs.Refusals.{IsFirstRefusal}
 
@@ -22,3 +22,7 @@ OneFirstRefusal = (traces : TraceLists) (one other : LinkError) → IsFirstRefus
 -- events have one answer at most, want of memory aside
 abbrev pub OneAnswer : Type 0
 OneAnswer = (traces : TraceLists) (one other : Result (List (List (Option ℕ))) LinkError) → IsAnswer traces one → IsAnswer traces other → (one ≡ Err NoMemory → ⊥) → (other ≡ Err NoMemory → ⊥) → one ≡ other
+
+-- events have links, and nothing is refused, or something is refused first
+abbrev pub LinksOrRefusal : Type 0
+LinksOrRefusal = (traces : TraceLists) → ((links : List (List (Option ℕ))) × IsWhole traces links) ⊎ ((refusal : LinkError) × IsFirstRefusal traces refusal)
