@@ -2,8 +2,8 @@
 //!
 //! Owns: where writes and turns come from (`Sources`), what a link is (`Links`), what keeps events from being linked and which of
 //! it is told first (`Refusals`), and that there are links or a first refusal, and one of them at most (`Laws`). They speak of
-//! all events of all threads, and of no index. The layer above may rely on this: `link` gives the link of each read, or the first refusal, within
-//! a number of looks that grows with the number of events.
+//! all events of all threads, and of no index. The layer above may rely on this: `link` gives the link of each read, or the
+//! first refusal, within a number of looks that grows with the number of events.
 #![tactic(auto)]
 
 mod finder;
