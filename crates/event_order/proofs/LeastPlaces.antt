@@ -2,7 +2,7 @@
 use Rattle.std.proofs.Common.{◌≡◌, ℕ, ◌<◌, ◌⊎◌, List, Option, Some, None, length, refl, sym, ap, subst, inl, inr}
 use Rattle.std.proofs.lemmas.Bool.{cases_lt, cases_order}
 use Rattle.interleavings.specs.declared.traces.Place.{Place}
-use Rattle.linkage.proofs.Deciding.{IsLeastNumber, Known, known_least, least_under, some_least}
+use Rattle.event_order.proofs.Deciding.{IsLeastNumber, Known, known_least, least_under, some_least}
 use Rattle.event_order.specs.Backs.{IsLeastOf}
 use Rattle.event_order.specs.Deeds.{size}
 use Rattle.event_order.specs.declared.deed.Deed.{Deed}

@@ -1,5 +1,6 @@
 pub mod Answering
 pub mod Counted
+pub mod Deciding
 pub mod Excluding
 pub mod Firsts
 pub mod Fits

@@ -5,7 +5,7 @@ use Rattle.std.proofs.lemmas.Bool.{cases_eq, cases_lt, cases_order}
 use Rattle.std.proofs.lemmas.List.{length-drop}
 use Rattle.std.proofs.lemmas.Option.{slice_get_within}
 use Rattle.interleavings.specs.declared.traces.Place.{Place}
-use Rattle.linkage.proofs.Deciding.{Known, known_as, known_both}
+use Rattle.event_order.proofs.Deciding.{Known, known_as, known_both}
 use Rattle.event_order.specs.Backs.{AllRemain, Fills, IsBackOf, IsBefore, IsLeastOf, IsNext, IsTurned, IsWalk, IsWalked, Remains, unmarked_count}
 use Rattle.event_order.specs.Cycles.{AtMost, IsRoundFrom}
 use Rattle.event_order.specs.Deeds.{Needs, NeedsAt, deed_at, gives_at, needs_of, needs_too_of, size}
