@@ -1,3 +1,4 @@
+mod Examples
 pub mod Answering
 pub mod Counted
 pub mod Deciding

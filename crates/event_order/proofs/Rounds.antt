@@ -5,9 +5,8 @@ use Rattle.std.proofs.lemmas.List.{drop_more, get_or-reverse, get_or-take, get_o
 use Rattle.std.proofs.lemmas.List.Elements.{Contains-append_cases}
 use Rattle.std.proofs.lemmas.Option.{get_or_from_slice_get, slice_get-get_or, slice_get_within}
 use Rattle.interleavings.specs.declared.traces.Place.{Place}
-use Rattle.event_order.specs.Backs.{IsBackOf, IsTurned, IsWalked}
+use Rattle.event_order.specs.Following.{IsFollowed, IsTurned, IsWalked}
 use Rattle.event_order.specs.Cycles.{IsRing, IsRoundFrom, Leads, first_or}
-use Rattle.event_order.specs.declared.deed.Deed.{Deed}
 use Rattle.event_order.proofs.Leading.{first_or-append, leads_append, leads_back, leads_front, leads_reverse}
 
 -- a list, parted at a place of it
@@ -44,7 +43,7 @@ from_back xs k i x is =
     let small : k + i < length xs = (let count = length-drop k xs in let inside = slice_get_within (drop k xs) i x is in omega arith) in
     slice_get-get_or xs (k + i) x small ∙ ap (λ y. Some y) (sym (get_or-drop k xs i x) ∙ get_or_from_slice_get (drop k xs) i x x is)
 
-module _ (rows : List (List Deed)) (done : ℕ → ℕ) (first : Place) (met : List Place) (again : ℕ) (walked : IsWalked rows done first met again) (list : List Place) (turned : IsTurned (drop again met) list) where
+module _ (steps : Place → Place → Type 0) (first : Place) (met : List Place) (again : ℕ) (walked : IsWalked steps first met again) (list : List Place) (turned : IsTurned (drop again met) list) where
   -- the round, as it was walked
   abbrev ring : List Place
   ring = drop again met
@@ -60,10 +59,6 @@ module _ (rows : List (List Deed)) (done : ℕ → ℕ) (first : Place) (met : L
   -- and from there on
   abbrev back : List Place
   back = drop (turned.number + 1) ring
-
-  -- its steps
-  abbrev steps : Place → Place → Type 0
-  steps = IsBackOf rows done
 
   -- the round in its parts
   ring_parts : ring ≡ front ++ turned.begin ∷ back
@@ -127,7 +122,7 @@ module _ (rows : List (List Deed)) (done : ℕ → ℕ) (first : Place) (met : L
       found.2 (let both = walked.once (again + found.0) (again + turned.number) turned.begin (from_back met again found.0 turned.begin found.1) (from_back met again turned.number turned.begin turned.there) in omega arith)
 
   -- the list is the round that the walk leads into
-  pub round_from : IsRoundFrom (IsBackOf rows done) first list
+  pub round_from : IsRoundFrom steps first list
   round_from = record {
     way = before ++ front;
     begin = turned.begin;
@@ -146,3 +141,7 @@ module _ (rows : List (List Deed)) (done : ℕ → ℕ) (first : Place) (met : L
           ∙ (ap (first_or before) (front_begins ∙ sym ring_begins)
           ∙ (sym (first_or-append before ring walked.at)
           ∙ (ap (λ xs. first_or xs walked.at) (take-append-drop again met) ∙ walked.starts)))
+
+-- where steps were followed until a place came a second time, they lead into the round
+pub followed_round : (steps : Place → Place → Type 0) (start : Place) (list : List Place) → IsFollowed steps start list → IsRoundFrom steps start list
+followed_round steps start list is = round_from steps start is.met is.again is.walked list is.turned
