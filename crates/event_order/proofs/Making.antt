@@ -1,14 +1,14 @@
 -- The deeds of events, one event and one thread more.
-use Rattle.std.proofs.Common.{◌≡◌, ℕ, zero, suc, ◌+◌, ◌<◌, List, [], ◌∷◌, ◌++◌, Some, length, refl, sym, ◌∙◌, ap, inl, inr, arith}
+use Rattle.std.proofs.Common.{◌≡◌, ℕ, zero, suc, ◌+◌, ◌<◌, ◌≤◌, List, [], ◌∷◌, ◌++◌, Some, length, refl, sym, ◌∙◌, ap, subst, inl, inr, arith}
 use Rattle.std.specs.Prelude.{option_map, slice_get}
 use Rattle.std.proofs.lemmas.Bool.{cases_lt}
-use Rattle.std.proofs.lemmas.List.{length_push, get_or_past}
+use Rattle.std.proofs.lemmas.List.{length_push, get_or_push, get_or_append_left, get_or_past}
 use Rattle.std.proofs.lemmas.Option.{slice_get_past}
 use Rattle.interleavings.specs.declared.traces.Place.{Place}
 use Rattle.interleavings.specs.TraceLists.{TraceLists, events_of}
 use Rattle.event_order.specs.DirectOrder.{LinkRows}
 use Rattle.linkage.specs.Links.{IsLinked, link_at}
-use Rattle.event_order.specs.Deeds.{AreDeedsOf, AreRowsOf, IsRowOf, deed_at, deed_in, deed_of, deeds_of}
+use Rattle.event_order.specs.Deeds.{AreDeedsOf, AreRowsOf, IsRowOf, deed_at, deed_in, deed_of, deeds_of, size}
 use Rattle.event_order.specs.declared.deed.Deed.{Deed}
 
 -- what stood in a list still stands there with one more
@@ -35,6 +35,29 @@ row_more traces links thread n row deed known is = record {
         slice_get-end row deed i (here ∙ sym known.count_is) ∙ (sym is ∙ ap (λ k. deed_in traces links (record { thread = thread; place = k })) (sym here))
   ];
 }
+
+-- one thread more
+pub rows_more : (traces : TraceLists) (links : LinkRows) (n : ℕ) (rows : List (List Deed)) (row : List Deed) → AreRowsOf traces links n rows → IsRowOf traces links n (length (events_of traces n)) row → AreRowsOf traces links (n + 1) (rows ++ row ∷ [])
+rows_more traces links n rows row known is = record {
+  threads_are = length_push rows row ∙ ap (λ k. k + 1) known.threads_are;
+  each = λ thread small. elim (cases_lt thread n) [
+    | inl before ↦ subst (IsRowOf traces links thread (length (events_of traces thread))) (sym (get_or_append_left rows (row ∷ []) [] thread (let count = known.threads_are in omega arith))) (known.each thread before)
+    | inr last ↦
+        let here : n ≡ thread = omega arith in
+        let P : ℕ → Type 0 = λ t. IsRowOf traces links t (length (events_of traces t)) (deeds_of (rows ++ row ∷ []) t) in
+        subst P here (subst (IsRowOf traces links n (length (events_of traces n))) (sym (get_or_push rows row [] n known.threads_are)) is)
+  ];
+}
+
+-- each row still has few deeds
+pub few_more : (most : ℕ) (rows : List (List Deed)) (row : List Deed) → ((thread : ℕ) → size rows thread ≤ most) → length row ≤ most → (thread : ℕ) → size (rows ++ row ∷ []) thread ≤ most
+few_more most rows row few small thread = elim (cases_lt thread (length rows)) [
+  | inl before ↦ let same = ap length (get_or_append_left rows (row ∷ []) [] thread before) in let old = few thread in omega arith
+  | inr after ↦ elim (cases_lt (length rows) thread) [
+    | inl past ↦ let same = ap length (get_or_past (rows ++ row ∷ []) thread [] (let count = length_push rows row in omega arith)) in omega arith
+    | inr last ↦ let same = ap length (get_or_push rows row [] thread (omega arith)) in omega arith
+  ]
+]
 
 -- the deeds of all threads are those of the events
 pub deeds_all : (traces : TraceLists) (links : LinkRows) (rows : List (List Deed)) → IsLinked traces links → AreRowsOf traces links (length traces.events) rows → AreDeedsOf traces links rows

@@ -1,13 +1,40 @@
 -- The round that a walk ends in, backwards from its least place on.
-use Rattle.std.proofs.Common.{◌≡◌, ℕ, ◌+◌, ◌-◌, ◌<◌, ◌≤◌, List, ◌∷◌, ◌++◌, Some, length, take, drop, reverse, sym, ◌∙◌, ap, subst, inl, inr, arith}
+use Rattle.std.proofs.Common.{◌≡◌, ℕ, ◌+◌, ◌-◌, ◌<◌, ◌≤◌, List, ◌∷◌, ◌++◌, Some, length, take, drop, reverse, sym, ◌∙◌, ap, subst, inl, inr, arith, true, false, ◌⊎◌, get_or}
 use Rattle.std.specs.Prelude.{Contains, slice_get}
+use Rattle.std.proofs.lemmas.Bool.{cases_lt}
 use Rattle.std.proofs.lemmas.List.{drop_more, get_or-reverse, get_or-take, get_or-drop, length-reverse, length-take, length-drop, reverse-append, take-append-drop}
 use Rattle.std.proofs.lemmas.List.Elements.{Contains-append_cases}
 use Rattle.std.proofs.lemmas.Option.{get_or_from_slice_get, slice_get-get_or, slice_get_within}
 use Rattle.interleavings.specs.declared.traces.Place.{Place}
+use Rattle.event_order.specs.Backs.{IsLeastAt, is_behind}
 use Rattle.event_order.specs.Following.{IsFollowed, IsTurned, IsWalked}
-use Rattle.event_order.specs.Cycles.{IsRing, IsRoundFrom, Leads, first_or}
+use Rattle.event_order.specs.Cycles.{AtMost, IsRing, IsRoundFrom, Leads, first_or}
+use Rattle.event_order.proofs.Firsts.{ahead_at_most, at_most_same, at_most_through, behind_at_most}
 use Rattle.event_order.proofs.Leading.{first_or-append, leads_append, leads_back, leads_front, leads_reverse}
+
+-- one place more, of which the lesser is kept
+pub least_more : (ring : List Place) (i best next : ℕ) (d : Place) → i < length ring → best < length ring → IsLeastAt ring i best → ((is_behind (get_or ring i d) (get_or ring best d) ≡ true) × (next ≡ i)) ⊎ ((is_behind (get_or ring i d) (get_or ring best d) ≡ false) × (next ≡ best)) → IsLeastAt ring (i + 1) next
+least_more ring i best next d here there least (inl new) j at kept small is kept_is =
+    let number : get_or ring next d ≡ kept = get_or_from_slice_get ring next kept d kept_is in
+    let same : get_or ring i d ≡ kept = ap (λ n. get_or ring n d) (sym new.1) ∙ number in
+    elim (cases_lt j i) [
+      | inl before ↦
+          subst (λ (p : Place). AtMost p at) same
+          (at_most_through (get_or ring i d) (get_or ring best d) at (behind_at_most (get_or ring i d) (get_or ring best d) new.0)
+          (least j at (get_or ring best d) before is (slice_get-get_or ring best d there)))
+      | inr last ↦
+          let place : get_or ring j d ≡ at = get_or_from_slice_get ring j at d is in
+          at_most_same kept at (sym same ∙ (ap (λ n. get_or ring n d) (let end : i ≡ j = omega arith in end) ∙ place))
+    ]
+least_more ring i best next d here there least (inr old) j at kept small is kept_is =
+    let number : get_or ring next d ≡ kept = get_or_from_slice_get ring next kept d kept_is in
+    let same : get_or ring best d ≡ kept = ap (λ n. get_or ring n d) (sym old.1) ∙ number in
+    elim (cases_lt j i) [
+      | inl before ↦ least j at kept before is (ap (slice_get ring) (sym old.1) ∙ kept_is)
+      | inr last ↦
+          let place : get_or ring i d ≡ at = ap (λ n. get_or ring n d) (let end : i ≡ j = omega arith in end) ∙ get_or_from_slice_get ring j at d is in
+          subst (λ (p : Place). AtMost p at) same (subst (AtMost (get_or ring best d)) place (ahead_at_most (get_or ring i d) (get_or ring best d) old.0))
+    ]
 
 -- a list, parted at a place of it
 parted : {X : Type 0} (xs : List X) (k : ℕ) (x : X) → slice_get xs k ≡ Some x → xs ≡ take k xs ++ x ∷ drop (k + 1) xs

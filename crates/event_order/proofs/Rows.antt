@@ -12,6 +12,10 @@ pushed_default [] d (suc i) = refl
 pushed_default (x ∷ xs) d zero = refl
 pushed_default (x ∷ xs) d (suc i) = pushed_default xs d i
 
+-- the same of a row
+pub pushed_row : {X : Type 0} (rows : List (List (Option X))) (slot : Slot) → entry (rows ++ [] ∷ []) slot ≡ entry rows slot
+pushed_row rows slot = ap (λ row. get_or row slot.number None) (pushed_default rows [] slot.row)
+
 -- slots with the same parts are the same
 pub two_numbers : (a b : Slot) → a.row ≡ b.row → a.number ≡ b.number → a ≡ b
 two_numbers a b row number =
