@@ -1,5 +1,5 @@
 -- Each exit of a thread that goes from event to event ends a turn that the thread began before.
-use Rattle.std.proofs.Common.{◌≡◌, ◌≢◌, ℕ, zero, suc, ◌+◌, ◌<◌, ◌==◌, ◌⊎◌, Bool, true, false, cond, List, [], ◌∷◌, Option, Some, None, length, refl, sym, ◌∙◌, ap, subst, inl, inr, arith, eq-eqb}
+use Rattle.std.proofs.Common.{◌≡◌, ℕ, zero, suc, ◌<◌, ◌==◌, ◌⊎◌, Bool, true, false, List, [], ◌∷◌, Option, Some, length, refl, sym, ◌∙◌, ap, subst, inl, inr, arith, eq-eqb}
 use Rattle.std.proofs.lemmas.Bool.{true≢false, cases_eq, cases_lt, ne_eqb}
 use Rattle.std.proofs.lemmas.List.{get_or-set_other, get_or-set_same, get_or_past, length-set}
 use Rattle.std.specs.Prelude.{option_and_then, slice_get, slice_set, unwrap_or}
@@ -8,7 +8,7 @@ use Rattle.stride_isa.specs.Listing.{Listing, op_at}
 use Rattle.stride_isa.specs.declared.op.Op.{Op}
 use Rattle.sc_machine.specs.declared.stop.Stop.{Stop}
 use Rattle.sc_machine.specs.declared.stop.Stop.TheVariants as stops
-use Rattle.sc_machine.specs.ThreadStep.{Thread, start_thread, holds, settled, answered, done_held, stop_of}
+use Rattle.sc_machine.specs.ThreadStep.{Thread, start_thread, holds, settled, answered, stop_of}
 use Rattle.interleavings.specs.declared.event.Event.{Event}
 use Rattle.interleavings.specs.declared.event.Event.TheVariants as events
 use Rattle.interleavings.specs.Events.{TurnOf, entered_by, left_by, word_given}

@@ -1,6 +1,5 @@
 -- What the playing of a schedule comes to. Only private clauses cite this module.
-use Rattle.std.specs.Prelude.{◌≡◌, ℕ, List, Some, None, Result, Ok, Err}
-use Rattle.stride_isa.specs.Listing.{Listing}
+use Rattle.std.specs.Prelude.{◌≡◌, ℕ, List, Some, Result, Ok, Err}
 use Rattle.sc_machine.specs.Machine.{Machine}
 use Rattle.sc_machine.specs.Schedule.{ready, turns}
 use Rattle.replayer.specs.declared.replay_error.ReplayError.{ReplayError}
