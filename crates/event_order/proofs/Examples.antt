@@ -11,7 +11,7 @@ use Rattle.event_order.specs.Cycles.{AtMost, IsCycle, IsLeft, IsStuck, IsTheCycl
 use Rattle.event_order.specs.DirectOrder.{Direct, LeavesAt, LinkRows, ReadsAt, WritesAt}
 use Rattle.event_order.specs.Extensions.{Extends, IsPlace, same_place, schedule_of, standing_too}
 use Rattle.event_order.specs.Least.{IsLeast, NotBehind}
-use Rattle.event_order.proofs.Places.{cases_place, stands_now, two_parts}
+use Rattle.event_order.proofs.Places.{cases_place, stands_now, stands_still, two_parts}
 use Rattle.event_order.proofs.Unique.{write_in}
 
 -- a place
@@ -275,6 +275,156 @@ read_moves_behind = record {
   );
   of_places = refl;
   least = again_least;
+}
+
+-- two threads write the same value, and a third reads it
+abbrev equal_writes : TraceLists
+equal_writes = record { events = (events.Write 0 3 1 ∷ []) ∷ (events.Write 0 3 2 ∷ []) ∷ (events.Read 0 3 2 ∷ []) ∷ []; starts = 0 ∷ []; monitors = 0 }
+
+-- the read is linked to the later of the two
+abbrev equal_links : LinkRows
+equal_links = (None ∷ []) ∷ (None ∷ []) ∷ (Some 2 ∷ []) ∷ []
+
+-- the writes, by their numbers
+equal_writes_at : (t i : ℕ) (write : WriteOf) → WritesAt equal_writes (at t i) write → (t + 1 ≡ write.number) × (i ≡ 0)
+equal_writes_at zero zero write is = (ap (λ (o : Option WriteOf). (write_in o).number) is, refl)
+equal_writes_at zero (suc i) write is = absurd cc
+equal_writes_at (suc zero) zero write is = (ap (λ (o : Option WriteOf). (write_in o).number) is, refl)
+equal_writes_at (suc zero) (suc i) write is = absurd cc
+equal_writes_at (suc (suc zero)) zero write is = absurd cc
+equal_writes_at (suc (suc zero)) (suc i) write is = absurd cc
+equal_writes_at (suc (suc (suc t))) i write is = absurd cc
+
+-- the read is linked to the write with number 2
+equal_reads_at : (t i n : ℕ) (read : ReadOf) → ReadsAt equal_writes (at t i) read → Rattle.linkage.specs.Links.link_at equal_links (at t i) ≡ Some n → n ≡ 2
+equal_reads_at zero zero n read is linked = absurd cc
+equal_reads_at zero (suc i) n read is linked = absurd cc
+equal_reads_at (suc zero) zero n read is linked = absurd cc
+equal_reads_at (suc zero) (suc i) n read is linked = absurd cc
+equal_reads_at (suc (suc zero)) zero n read is linked = let same : Some 2 ≡ Some n = linked in sym cc
+equal_reads_at (suc (suc zero)) (suc i) n read is linked = absurd cc
+equal_reads_at (suc (suc (suc t))) i n read is linked = absurd cc
+
+-- what comes before the event of a thread is that of the thread before
+equal_before : (t : ℕ) (before : Place) → Direct equal_writes equal_links before (at t 0) → (before.thread + 1 ≡ t) × (before.place ≡ 0)
+equal_before t before (Direct.in_thread thread place) = absurd (omega arith)
+equal_before t before (Direct.next_write write next writes follows cell number) =
+    let first = equal_writes_at before.thread before.place write writes in
+    let second = equal_writes_at t 0 next follows in
+    ((let one = first.0 in let other = second.0 in omega arith), first.1)
+equal_before zero before (Direct.read_of_write write read writes reads cell linked) = absurd cc
+equal_before (suc zero) before (Direct.read_of_write write read writes reads cell linked) = absurd cc
+equal_before (suc (suc zero)) before (Direct.read_of_write write read writes reads cell linked) =
+    let first = equal_writes_at before.thread before.place write writes in
+    let two : write.number ≡ 2 = equal_reads_at 2 0 write.number read reads linked in
+    ((let one = first.0 in omega arith), first.1)
+equal_before (suc (suc (suc t))) before (Direct.read_of_write write read writes reads cell linked) = absurd cc
+equal_before t before (Direct.write_after_read read number next reads linked follows cell next_number) =
+    let two = equal_reads_at before.thread before.place number read reads linked in
+    let second = equal_writes_at t 0 next follows in
+    absurd (no_third t next follows (let one = second.0 in omega arith))
+  where
+    no_third : (t : ℕ) (next : WriteOf) → WritesAt equal_writes (at t 0) next → t ≡ 2 → ⊥
+    no_third zero next follows is = omega arith
+    no_third (suc zero) next follows is = omega arith
+    no_third (suc (suc zero)) next follows is = absurd cc
+    no_third (suc (suc (suc t))) next follows is = omega arith
+equal_before zero before (Direct.next_turn left begun leaves enters monitor turn) = absurd cc
+equal_before (suc zero) before (Direct.next_turn left begun leaves enters monitor turn) = absurd cc
+equal_before (suc (suc zero)) before (Direct.next_turn left begun leaves enters monitor turn) = absurd cc
+equal_before (suc (suc (suc t))) before (Direct.next_turn left begun leaves enters monitor turn) = absurd cc
+
+-- each thread has its first event alone
+equal_places : (t i : ℕ) → IsPlace equal_writes (at t i) → (i ≡ 0) × (t < 3)
+equal_places zero zero is = (refl, omega arith)
+equal_places zero (suc i) is = absurd cc
+equal_places (suc zero) zero is = (refl, omega arith)
+equal_places (suc zero) (suc i) is = absurd cc
+equal_places (suc (suc zero)) zero is = (refl, omega arith)
+equal_places (suc (suc zero)) (suc i) is = absurd cc
+equal_places (suc (suc (suc t))) i is = absurd cc
+
+-- what stands after one thread, after two, and after three
+abbrev after_one : Place → Bool
+after_one = standing_too (at 0 0) (λ place. false)
+
+abbrev after_two : Place → Bool
+after_two = standing_too (at 1 0) after_one
+
+abbrev after_three : Place → Bool
+after_three = standing_too (at 2 0) after_two
+
+-- an event of a thread is its first
+its_first : (place : Place) (t : ℕ) → IsPlace equal_writes place → t ≡ place.thread → at t 0 ≡ place
+its_first place t is row = two_parts (at t 0) place row (sym (equal_places place.thread place.place is).0)
+
+-- after two threads the third comes
+then_third : (others : List Place) → Extends equal_writes equal_links after_two others → NotBehind (2 ∷ []) (schedule_of others)
+then_third [] extends = absurd (true≢false (sym (extends (at 2 0) refl)))
+then_third (next ∷ others) extends = elim (cases_order 2 next.thread) [
+  | inl row ↦ inr (row, tt)
+  | inr (inl less) ↦ inl less
+  | inr (inr more) ↦ elim (cases_order 1 next.thread) [
+    | inl row ↦ absurd (true≢false (sym (stands_now (at 1 0) next after_one (its_first next 1 extends.0 row)) ∙ extends.1))
+    | inr (inl less) ↦ absurd (omega arith)
+    | inr (inr none) ↦ absurd (true≢false (sym (stands_still (at 1 0) next after_one (stands_now (at 0 0) next (λ place. false) (its_first next 0 extends.0 (omega arith)))) ∙ extends.1))
+  ]
+]
+
+-- after one the second
+then_two : (others : List Place) → Extends equal_writes equal_links after_one others → NotBehind (1 ∷ 2 ∷ []) (schedule_of others)
+then_two [] extends = absurd (true≢false (sym (extends (at 1 0) refl)))
+then_two (next ∷ others) extends = elim (cases_order 1 next.thread) [
+  | inl row ↦
+      let P : Place → Type 0 = λ p. Extends equal_writes equal_links (standing_too p after_one) others in
+      inr (row, then_third others (subst P (sym (its_first next 1 extends.0 row)) extends.3))
+  | inr (inl less) ↦ inl less
+  | inr (inr none) ↦ absurd (true≢false (sym (stands_now (at 0 0) next (λ place. false) (its_first next 0 extends.0 (omega arith))) ∙ extends.1))
+]
+
+-- any way on comes thread by thread
+equal_least : (others : List Place) → Extends equal_writes equal_links (λ place. false) others → NotBehind (0 ∷ 1 ∷ 2 ∷ []) (schedule_of others)
+equal_least [] extends = absurd (true≢false (sym (extends (at 0 0) refl)))
+equal_least (first ∷ others) extends = elim (cases_order 0 first.thread) [
+  | inl row ↦
+      let P : Place → Type 0 = λ p. Extends equal_writes equal_links (standing_too p (λ place. false)) others in
+      inr (row, then_two others (subst P (sym (its_first first 0 extends.0 row)) extends.3))
+  | inr (inl less) ↦ inl less
+  | inr (inr more) ↦ absurd (omega arith)
+]
+
+-- all stand after three
+equal_stand : (t i : ℕ) → IsPlace equal_writes (at t i) → after_three (at t i) ≡ true
+equal_stand zero zero is = refl
+equal_stand zero (suc i) is = absurd cc
+equal_stand (suc zero) zero is = refl
+equal_stand (suc zero) (suc i) is = absurd cc
+equal_stand (suc (suc zero)) zero is = refl
+equal_stand (suc (suc zero)) (suc i) is = absurd cc
+equal_stand (suc (suc (suc t))) i is = absurd cc
+
+-- the read comes after both writes
+read_after_both : IsLeast equal_writes equal_links (0 ∷ 1 ∷ 2 ∷ [])
+read_after_both = record {
+  places = at 0 0 ∷ at 1 0 ∷ at 2 0 ∷ [];
+  extends = (
+    refl,
+    refl,
+    λ before direct. absurd (let none = (equal_before 0 before direct).0 in omega arith),
+    (
+      refl,
+      refl,
+      λ before direct. let same = equal_before 1 before direct in stands_now (at 0 0) before (λ place. false) (two_parts (at 0 0) before (let row = same.0 in omega arith) (sym same.1)),
+      (
+        refl,
+        refl,
+        λ before direct. let same = equal_before 2 before direct in stands_now (at 1 0) before after_one (two_parts (at 1 0) before (let row = same.0 in omega arith) (sym same.1)),
+        λ place is. equal_stand place.thread place.place is,
+      ),
+    ),
+  );
+  of_places = refl;
+  least = equal_least;
 }
 
 -- two threads each write a variable, and read the other's starting value after that

@@ -2,10 +2,11 @@
 use Rattle.std.proofs.Common.{◌≡◌, ℕ, ◌+◌, ◌<◌, ◌≤◌, ◌⊎◌, ◌==◌, true, false, ◌&&◌, List, Option, Some, None, length, refl, sym, ◌∙◌, ap, subst, inl, inr, arith}
 use Rattle.std.specs.Prelude.{ltb, option_and_then}
 use Rattle.std.proofs.lemmas.Bool.{and_parts, cases_Bool, cases_lt, eqb-true, eqb-false, ltb-true, ltb-false, or_cases, or_parts, and_cases}
+use Rattle.std.proofs.lemmas.Option.{slice_get_within}
 use Rattle.interleavings.specs.declared.traces.Place.{Place}
 use Rattle.event_order.specs.Backs.{AreFirsts, AreFirstsBefore, Fills, Gives, GivesBefore, IsBefore, IsEarlier, IsKeptFirst, IsLeastOf, IsNext, IsNextLeft, Remains, is_behind, lesser_of}
 use Rattle.event_order.specs.Cycles.{AtMost}
-use Rattle.event_order.specs.Deeds.{Needs, deed_at, gives_at, needs_of, needs_too_of, size}
+use Rattle.event_order.specs.Deeds.{Needs, deed_at, gives_at, needs_of, needs_too_of, size, deeds_of}
 use Rattle.event_order.specs.declared.deed.Deed.{Deed}
 use Rattle.event_order.specs.declared.slot.Slot.{Slot}
 use Rattle.event_order.proofs.Places.{two_parts}
@@ -89,27 +90,34 @@ module _ (rows : List (List Deed)) (done : ℕ → ℕ) where
       (are slot)
 
   -- the step back is the least of the deed before in the thread and the first that fill the slots that are needed
-  pub back_least : (at : Place) (deed : Deed) (before : Option Place) (firsts : Slot → Option Place) → deed_at rows at ≡ Some deed → AreFirsts rows done firsts → IsLeastOf (IsNextLeft rows done at) before → IsLeastOf (IsBefore rows done at) (lesser_of before (lesser_of (option_and_then firsts (needs_of deed)) (option_and_then firsts (needs_too_of deed))))
+  pub back_least : (at : Place) (deed : Deed) (before : Option Place) (firsts : Slot → Option Place) → deed_at rows at ≡ Some deed → AreFirsts rows done firsts → IsLeastOf (IsNextLeft done at) before → IsLeastOf (IsBefore rows done at) (lesser_of before (lesser_of (option_and_then firsts (needs_of deed)) (option_and_then firsts (needs_too_of deed))))
   back_least at deed before firsts there are least = least_same _ _ _ to from
       (lesser_least _ _ before (lesser_of (option_and_then firsts (needs_of deed)) (option_and_then firsts (needs_too_of deed))) least
       (lesser_least _ _ (option_and_then firsts (needs_of deed)) (option_and_then firsts (needs_too_of deed)) (first_for_least firsts are (needs_of deed)) (first_for_least firsts are (needs_too_of deed))))
     where
-      to : (other : Place) → IsNextLeft rows done at other ⊎ (GivesFor rows done (needs_of deed) other ⊎ GivesFor rows done (needs_too_of deed) other) → IsBefore rows done at other
-      to other (inl next) = record { remains = next.remains; directly = inl next.next }
+      next_there : (other : Place) → IsNext other at → other.place < size rows other.thread
+      next_there other next =
+          let small = slice_get_within (deeds_of rows at.thread) at.place deed there in
+          let count : size rows other.thread ≡ size rows at.thread = ap (size rows) next.thread in
+          let place = next.place in
+          omega arith
+
+      to : (other : Place) → IsNextLeft done at other ⊎ (GivesFor rows done (needs_of deed) other ⊎ GivesFor rows done (needs_too_of deed) other) → IsBefore rows done at other
+      to other (inl next) = record { remains = record { there = next_there other next.next; waits = next.waits }; directly = inl next.next }
       to other (inr (inl fills)) = record { remains = fills.gives.remains; directly = inr (record { slot = fills.slot; gives = fills.gives.gives; needs = record { deed = deed; there = there; needs = inl fills.is } }) }
       to other (inr (inr fills)) = record { remains = fills.gives.remains; directly = inr (record { slot = fills.slot; gives = fills.gives.gives; needs = record { deed = deed; there = there; needs = inr fills.is } }) }
 
-      by_slot : (other : Place) (slot : Slot) → Gives rows done slot other → Needs deed slot → IsNextLeft rows done at other ⊎ (GivesFor rows done (needs_of deed) other ⊎ GivesFor rows done (needs_too_of deed) other)
+      by_slot : (other : Place) (slot : Slot) → Gives rows done slot other → Needs deed slot → IsNextLeft done at other ⊎ (GivesFor rows done (needs_of deed) other ⊎ GivesFor rows done (needs_too_of deed) other)
       by_slot other slot gives (inl is) = inr (inl (record { slot = slot; is = is; gives = gives }))
       by_slot other slot gives (inr is) = inr (inr (record { slot = slot; is = is; gives = gives }))
 
-      from_ways : (other : Place) → Remains rows done other → IsNext other at ⊎ Fills rows other at → IsNextLeft rows done at other ⊎ (GivesFor rows done (needs_of deed) other ⊎ GivesFor rows done (needs_too_of deed) other)
-      from_ways other remains (inl next) = inl (record { next = next; remains = remains })
+      from_ways : (other : Place) → Remains rows done other → IsNext other at ⊎ Fills rows other at → IsNextLeft done at other ⊎ (GivesFor rows done (needs_of deed) other ⊎ GivesFor rows done (needs_too_of deed) other)
+      from_ways other remains (inl next) = inl (record { next = next; waits = remains.waits })
       from_ways other remains (inr fills) =
           let same : fills.needs.deed ≡ deed = (let both : Some fills.needs.deed ≡ Some deed = sym fills.needs.there ∙ there in cc) in
           by_slot other fills.slot (record { remains = remains; gives = fills.gives }) (subst (λ (d : Deed). Needs d fills.slot) same fills.needs.needs)
 
-      from : (other : Place) → IsBefore rows done at other → IsNextLeft rows done at other ⊎ (GivesFor rows done (needs_of deed) other ⊎ GivesFor rows done (needs_too_of deed) other)
+      from : (other : Place) → IsBefore rows done at other → IsNextLeft done at other ⊎ (GivesFor rows done (needs_of deed) other ⊎ GivesFor rows done (needs_too_of deed) other)
       from other is = from_ways other is.remains is.directly
 
   -- what stands before a place of a thread, or is it

@@ -67,10 +67,10 @@ pub record IsBackOf (rows : List (List Deed)) (done : ℕ → ℕ) (at back : Pl
   pub before : IsBefore rows done at back
   pub least : (other : Place) → IsBefore rows done at other → AtMost back other
 
--- the deed right before another in its thread, if it remains
-pub record IsNextLeft (rows : List (List Deed)) (done : ℕ → ℕ) (at before : Place) : Type 0 where
+-- the place right before another in its thread, if its deed doesn't stand
+pub record IsNextLeft (done : ℕ → ℕ) (at before : Place) : Type 0 where
   pub next : IsNext before at
-  pub remains : Remains rows done before
+  pub waits : done before.thread ≤ before.place
 
 -- whether the first place stands before the other
 abbrev pub is_behind : Place → Place → Bool

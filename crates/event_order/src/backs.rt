@@ -1,6 +1,6 @@
 //! Steps back from event to event among those that don't stand.
 ghost use Rattle.std.specs.Prelude.{◌≡◌, ◌+◌, ◌<◌, length, IfOk, OnOk, option_and_then};
-ghost use Rattle.event_order.specs.Backs.{AreFirsts, AreFirstsBefore, IsBefore, IsKeptFirst, IsLeastOf, IsNextLeft, Remains, lesser_of};
+ghost use Rattle.event_order.specs.Backs.{AreFirsts, AreFirstsBefore, IsBefore, IsKeptFirst, IsLeastOf, IsNextLeft, Remains, is_behind, lesser_of};
 ghost use Rattle.event_order.specs.Deeds.{size};
 ghost use Rattle.event_order.specs.Fronts.{done_of};
 ghost use Rattle.event_order.specs.Tables.{entry, rows_of};
@@ -79,18 +79,19 @@ pub(crate) fn find_firsts(
     Ok(firsts)
 }
 
+/// Whether a place stands before another, by thread, then place.
+pub(crate) fn is_before(one: Place, other: Place) -> bool
+    ensures { result ≡ is_behind one other }
+{
+    one.thread < other.thread || (one.thread == other.thread && one.place < other.place)
+}
+
 fn lesser(one: Option<Place>, other: Option<Place>) -> Option<Place>
     ensures { result ≡ lesser_of one other }
 {
     match (one, other) {
-        (Some(a), Some(b)) => {
-            if b.thread < a.thread || (b.thread == a.thread && b.place < a.place) {
-                Some(b)
-            } else {
-                Some(a)
-            }
-        }
-        (Some(a), None) => Some(a),
+        (Some(a), Some(b)) if is_before(b, a) => Some(b),
+        (Some(a), Some(_) | None) => Some(a),
         (None, other) => other,
     }
 }
@@ -102,10 +103,9 @@ fn first_for(firsts: &Table<Place>, slot: Option<Slot>) -> Option<Place>
 }
 
 // The place before in the thread, if its event doesn't stand.
-fn place_before(deeds: &Deeds, done: &[u32], at: Place) -> Option<Place>
-    requires threads { length done.now ≡ length deeds.now }
-    requires there { at.place < size deeds.now at.thread }
-    ensures { IsLeastOf (IsNextLeft deeds.now (done_of done.now) at) result }
+fn place_before(done: &[u32], at: Place) -> Option<Place>
+    requires { at.thread < length done.now }
+    ensures { IsLeastOf (IsNextLeft (done_of done.now) at) result }
 {
     if at.place > done[at.thread as usize] {
         Some(Place {
@@ -134,5 +134,5 @@ pub(crate) fn step_back(
         first_for(firsts, deed.needs()),
         first_for(firsts, deed.needs_too()),
     );
-    lesser(place_before(deeds, done, at), filled)
+    lesser(place_before(done, at), filled)
 }

@@ -55,6 +55,7 @@ impl Deed {
         ensures { result ≡ deed_of event link }
     {
         match event {
+            // Each read has a link where the links are those of the events.
             Event::Read { cell, .. } => Deed::Read {
                 cell,
                 number: link.unwrap_or(0),

@@ -1,17 +1,12 @@
 //! The cycle among the events that a walk met, from its least event on.
 ghost use Rattle.std.specs.Prelude.{◌≡◌, ◌++◌, ◌<◌, ◌∷◌, [], length, reverse, IfOk, OnOk};
-ghost use Rattle.event_order.specs.Backs.{IsLeastAt, is_behind};
+ghost use Rattle.event_order.specs.Backs.{IsLeastAt};
 ghost use Rattle.event_order.specs.Following.{IsTurned};
 
+use crate::backs::is_before;
 use interleavings::Place;
 use std::alloc::Global;
 use stride_base::{List, NoMemory};
-
-fn is_before(one: Place, other: Place) -> bool
-    ensures { result ≡ is_behind one other }
-{
-    one.thread < other.thread || (one.thread == other.thread && one.place < other.place)
-}
 
 // The number of a least place.
 fn least_of(ring: &[Place]) -> usize
