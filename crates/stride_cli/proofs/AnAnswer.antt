@@ -7,7 +7,7 @@ use Rattle.stride_isa.specs.Listing.{Listing}
 use Rattle.assembler.specs.Programs.{LineFault, spelled}
 use Rattle.log_format.specs.Reading.{reading}
 use Rattle.stride_cli.specs.declared.words.Command.{Command}
-use Rattle.stride_cli.specs.declared.words.Command.TheVariants.{Check, Follow, Sim, Show, Upgrade}
+use Rattle.stride_cli.specs.declared.words.Command.TheVariants.{Check, Follow, Infer, Replay, Show, Sim, Upgrade}
 use Rattle.stride_cli.specs.declared.status.Status.TheVariants.{Usage, TooLong}
 use Rattle.stride_cli.specs.Answers.{Answer, AnswersSpelled, AnswersInput, AnswersBy, judged, program_part, refused, refused_text, shown, upgraded}
 use Rattle.stride_cli.specs.Laws.{AnAnswer}
@@ -23,6 +23,8 @@ input_answer each Follow bytes = text_answer each (program_part bytes) (spelled 
 input_answer each Sim bytes = text_answer each (program_part bytes) (spelled (program_part bytes)) _
 input_answer each Show bytes = (shown (reading bytes), refl)
 input_answer each Upgrade bytes = (upgraded (reading bytes), refl)
+input_answer each Infer bytes = ?
+input_answer each Replay bytes = ?
 
 by_length : HasVerdict → (too_long : Bool) (command : Command) (bytes : List ℕ) → (answer : Answer) × MatchBool too_long (answer ≡ refused TooLong) (AnswersInput command bytes answer)
 by_length each true command bytes = (refused TooLong, refl)

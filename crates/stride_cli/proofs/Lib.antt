@@ -1,4 +1,10 @@
 pub mod Accepted
 pub mod AnAnswer
+pub mod Bundles
+pub mod Events
 pub mod Followed
+pub mod Inferences
+pub mod Lines
 pub mod OneAnswer
+pub mod Ranges
+pub mod Replayed

@@ -13,4 +13,9 @@ pub fn one_answer()
     ensures { OneAnswer }
 {
     stride_isa::one_verdict();
+    linkage::one_first_refusal();
+    linkage::one_linking();
+    event_order::one_cycle();
+    event_order::one_least();
+    event_order::cycles_exclude();
 }

@@ -8,6 +8,7 @@
 #![tactic(auto)]
 
 mod commands;
+mod inferring;
 mod input;
 mod laws;
 mod messages;
@@ -20,4 +21,4 @@ mod words;
 
 pub use laws::{an_answer, one_answer};
 pub use offline_call::offline;
-pub use status::{MemberFault, ProgramFault, Status};
+pub use status::{LinkageFault, MemberFault, ProgramFault, Status};
