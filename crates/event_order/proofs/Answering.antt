@@ -1,12 +1,12 @@
 -- The answers: the least schedule where nothing remains, and the cycle where something does.
-use Rattle.std.proofs.Common.{◌≡◌, ℕ, ◌<◌, ◌≤◌, ◌⊎◌, List, Option, Some, None, length, inl, inr, refl, sym, subst}
+use Rattle.std.proofs.Common.{ℕ, List, Some}
 use Rattle.interleavings.specs.declared.traces.Place.{Place}
 use Rattle.interleavings.specs.TraceLists.{TraceLists}
-use Rattle.event_order.specs.Backs.{AllRemain, IsBackOf, IsBefore, IsLeastOf, Remains}
-use Rattle.event_order.specs.Cycles.{AtMost, IsCycle, IsLeft, IsRing, IsRoundFrom, IsTheCycle, Precedes, StepsBack}
-use Rattle.event_order.specs.Deeds.{AreDeedsOf, size}
+use Rattle.event_order.specs.Backs.{AllRemain, IsBackOf, IsLeastOf, Remains}
+use Rattle.event_order.specs.Cycles.{IsCycle, IsRoundFrom, IsTheCycle, Precedes, StepsBack}
+use Rattle.event_order.specs.Deeds.{AreDeedsOf}
 use Rattle.event_order.specs.DirectOrder.{LinkRows}
-use Rattle.event_order.specs.Fronts.{IsExtended, IsKept, done_of}
+use Rattle.event_order.specs.Fronts.{IsExtended, done_of}
 use Rattle.event_order.specs.Least.{IsLeast}
 use Rattle.event_order.specs.declared.deed.Deed.{Deed}
 use Rattle.event_order.proofs.Excluding.{cycle_excludes}

@@ -1,12 +1,12 @@
 -- A cycle leaves no extension.
-use Rattle.std.proofs.Common.{◌≡◌, ◌≢◌, ◌⊎◌, Bool, true, false, List, [], ◌∷◌, refl, sym, ◌∙◌, ap, subst, inl, inr}
+use Rattle.std.proofs.Common.{◌≡◌, ◌⊎◌, Bool, false, List, [], ◌∷◌, refl, sym, ◌∙◌, subst, inl, inr}
 use Rattle.std.proofs.lemmas.Bool.{true≢false}
 use Rattle.interleavings.specs.declared.traces.Place.{Place}
 use Rattle.interleavings.specs.TraceLists.{TraceLists}
-use Rattle.event_order.specs.Cycles.{IsCycle, IsRing, Leads, Precedes, first_or}
+use Rattle.event_order.specs.Cycles.{IsCycle, IsRing, Leads, Precedes}
 use Rattle.event_order.specs.DirectOrder.{Direct, LinkRows}
 use Rattle.event_order.specs.Extensions.{Extends, IsExtension, IsPlace, standing_too}
-use Rattle.event_order.proofs.Places.{cases_place, stood}
+use Rattle.event_order.proofs.Places.{cases_place}
 
 -- the place is among the list
 abbrev pub Among : Place → List Place → Type 0

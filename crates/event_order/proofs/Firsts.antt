@@ -1,11 +1,11 @@
 -- Least places of a sort, and the first deeds that fill slots.
-use Rattle.std.proofs.Common.{◌≡◌, ◌≢◌, ℕ, zero, suc, ◌+◌, ◌-◌, ◌<◌, ◌≤◌, ◌⊎◌, ◌==◌, Bool, true, false, ◌&&◌, ◌||◌, List, [], ◌∷◌, Option, Some, None, length, refl, sym, ◌∙◌, ap, subst, inl, inr, arith}
-use Rattle.std.specs.Prelude.{ltb, if◌then◌else◌, option_and_then}
-use Rattle.std.proofs.lemmas.Bool.{true≢false, and_parts, cases_Bool, cases_eq, cases_lt, cases_order, eqb-true, eqb-false, ltb-true, ltb-false, or_cases, or_parts, and_cases, lt-ltb, le-ltb}
+use Rattle.std.proofs.Common.{◌≡◌, ℕ, ◌+◌, ◌<◌, ◌≤◌, ◌⊎◌, ◌==◌, true, false, ◌&&◌, List, Option, Some, None, length, refl, sym, ◌∙◌, ap, subst, inl, inr, arith}
+use Rattle.std.specs.Prelude.{ltb, option_and_then}
+use Rattle.std.proofs.lemmas.Bool.{and_parts, cases_Bool, cases_lt, eqb-true, eqb-false, ltb-true, ltb-false, or_cases, or_parts, and_cases}
 use Rattle.interleavings.specs.declared.traces.Place.{Place}
 use Rattle.event_order.specs.Backs.{AreFirsts, AreFirstsBefore, Fills, Gives, GivesBefore, IsBefore, IsEarlier, IsKeptFirst, IsLeastOf, IsNext, IsNextLeft, Remains, is_behind, lesser_of}
 use Rattle.event_order.specs.Cycles.{AtMost}
-use Rattle.event_order.specs.Deeds.{Needs, NeedsAt, deed_at, gives_at, needs_of, needs_too_of, size}
+use Rattle.event_order.specs.Deeds.{Needs, deed_at, gives_at, needs_of, needs_too_of, size}
 use Rattle.event_order.specs.declared.deed.Deed.{Deed}
 use Rattle.event_order.specs.declared.slot.Slot.{Slot}
 use Rattle.event_order.proofs.Places.{two_parts}

@@ -1,15 +1,15 @@
 -- The thread numbers of an extension of the direct order give the events of their threads one after another, and each event
 -- suits what happened before it.
-use Rattle.std.proofs.Common.{◌≡◌, ◌≢◌, ℕ, zero, suc, ◌+◌, ◌-◌, ◌<◌, ◌≤◌, ◌⊎◌, Bool, true, false, List, [], ◌∷◌, Option, Some, None, length, refl, sym, ◌∙◌, ap, subst, inl, inr, arith}
+use Rattle.std.proofs.Common.{◌≡◌, ℕ, ◌+◌, ◌-◌, ◌<◌, ◌≤◌, Bool, true, false, List, [], ◌∷◌, Option, Some, None, length, refl, sym, ◌∙◌, ap, inl, inr, arith}
 use Rattle.std.proofs.lemmas.Bool.{true≢false, cases_eq, cases_lt}
-use Rattle.std.proofs.lemmas.Option.{slice_get-get_or, slice_get_within}
+use Rattle.std.proofs.lemmas.Option.{slice_get-get_or}
 use Rattle.std.specs.Prelude.{is_some, slice_get}
 use Rattle.std.specs.Option.{option_and_then}
 use Rattle.sc_machine.specs.Machine.{put}
 use Rattle.interleavings.specs.declared.event.Event.{Event}
 use Rattle.interleavings.specs.declared.event.Event.TheVariants as events
 use Rattle.interleavings.specs.declared.traces.Place.{Place}
-use Rattle.interleavings.specs.Events.{ReadOf, WriteOf, TurnOf, read_of, write_of, bound_of, entered_by, left_by}
+use Rattle.interleavings.specs.Events.{WriteOf, TurnOf, read_of, write_of, bound_of, entered_by, left_by}
 use Rattle.interleavings.specs.TraceLists.{TraceLists, events_of}
 use Rattle.linkage.specs.Sources.{event_at}
 use Rattle.event_order.specs.DirectOrder.{Direct, LinkRows}

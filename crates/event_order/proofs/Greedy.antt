@@ -1,5 +1,5 @@
 -- The thread that is taken next: the first whose next deed waits for nothing begins the least order from there.
-use Rattle.std.proofs.Common.{◌≡◌, ◌≢◌, ℕ, zero, suc, ◌+◌, ◌-◌, ◌<◌, ◌≤◌, ◌⊎◌, Bool, true, false, ◌&&◌, List, [], ◌∷◌, ◌++◌, Option, Some, None, length, get_or, refl, sym, ◌∙◌, ap, ap₂, subst, inl, inr, arith}
+use Rattle.std.proofs.Common.{◌≡◌, ℕ, ◌-◌, ◌<◌, ◌⊎◌, Bool, true, false, ◌&&◌, List, [], ◌∷◌, ◌++◌, Option, Some, None, length, get_or, refl, sym, ◌∙◌, ap, subst, inl, inr, arith}
 use Rattle.std.proofs.Math.Path.{fun_ext}
 use Rattle.std.specs.Prelude.{ltb, leb, option_and_then}
 use Rattle.std.proofs.lemmas.List.{append-nil, append_assoc}
@@ -7,18 +7,18 @@ use Rattle.std.proofs.lemmas.Bool.{true≢false, cases_eq, cases_lt, cases_order
 use Rattle.std.proofs.lemmas.Option.{slice_get_within, slice_get-get_or}
 use Rattle.interleavings.specs.declared.traces.Place.{Place}
 use Rattle.interleavings.specs.TraceLists.{TraceLists}
-use Rattle.event_order.specs.Backs.{AllRemain, Fills, Gives, IsBefore, IsNext, Remains}
+use Rattle.event_order.specs.Backs.{AllRemain, Fills, IsBefore, IsNext, Remains}
 use Rattle.event_order.specs.Cycles.{IsLeft, IsStuck, Precedes}
 use Rattle.event_order.specs.Deeds.{AreDeedsOf, Needs, NeedsAt, deed_at, deeds_of, gives_of, needs_of, needs_too_of, size}
 use Rattle.event_order.specs.DirectOrder.{Direct, LinkRows}
-use Rattle.event_order.specs.Extensions.{Extends, IsPlace, same_place, schedule_of, standing_too}
-use Rattle.event_order.specs.Fronts.{IsFront, IsKept, IsRaised, IsReady, done_of, stood, waiting}
+use Rattle.event_order.specs.Extensions.{Extends, IsPlace, schedule_of, standing_too}
+use Rattle.event_order.specs.Fronts.{IsFront, IsKept, IsRaised, IsReady, done_of, stood}
 use Rattle.event_order.specs.Least.{IsLeast, IsLeastFrom, NotBehind}
 use Rattle.event_order.specs.declared.deed.Deed.{Deed}
 use Rattle.event_order.specs.declared.deed.Deed.TheVariants as deeds
 use Rattle.event_order.specs.declared.slot.Slot.{Slot}
-use Rattle.event_order.proofs.Places.{cases_place, stands_now, stands_still, stood as stood_by, two_parts}
-use Rattle.event_order.proofs.Preceding.{directly, has_place, place_has, precedes_from, precedes_to}
+use Rattle.event_order.proofs.Places.{stands_now, stands_still, stood as stood_by, two_parts}
+use Rattle.event_order.proofs.Preceding.{directly, has_place, place_has, precedes_from}
 use Rattle.event_order.specs.Sums.{upto}
 use Rattle.event_order.proofs.Sums.{upto_less}
 use Rattle.event_order.proofs.Waiting.{thread_there, waited_for, waiting_for}

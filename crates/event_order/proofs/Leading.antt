@@ -1,6 +1,6 @@
 -- Lists whose members lead from one to the next.
-use Rattle.std.proofs.Common.{◌≡◌, ◌≢◌, ℕ, zero, suc, ◌+◌, ◌<◌, ◌≤◌, ◌⊎◌, List, [], ◌∷◌, ◌++◌, reverse, refl, sym, ◌∙◌, ap, subst, inl, inr}
-use Rattle.std.proofs.lemmas.List.{reverse-append, append_assoc}
+use Rattle.std.proofs.Common.{◌≡◌, List, [], ◌∷◌, ◌++◌, reverse, refl, sym, subst}
+use Rattle.std.proofs.lemmas.List.{reverse-append}
 use Rattle.interleavings.specs.declared.traces.Place.{Place}
 use Rattle.event_order.specs.Cycles.{IsRing, IsRoundFrom, Leads, first_or}
 

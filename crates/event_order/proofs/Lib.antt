@@ -1,5 +1,6 @@
 pub mod Answering
 pub mod Counted
+pub mod Deciding
 pub mod Excluding
 pub mod Firsts
 pub mod Fits
@@ -7,6 +8,7 @@ pub mod Fitting
 pub mod Greedy
 pub mod Keeping
 pub mod Leading
+pub mod LeastOrCycle
 pub mod Making
 pub mod Meeting
 pub mod Meets
@@ -14,6 +16,9 @@ pub mod OneLeast
 pub mod OneRound
 pub mod Places
 pub mod Preceding
+pub mod Reaching
+pub mod Rendering
+pub mod Returning
 pub mod Rounds
 pub mod Rows
 pub mod Running

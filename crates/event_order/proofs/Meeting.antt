@@ -1,5 +1,5 @@
 -- What the machine does at the stop at which an event is met is what the event says, where the event suits what happened before.
-use Rattle.std.proofs.Common.{◌≡◌, ℕ, ◌+◌, Bool, true, false, Option, Some, None, refl, sym, ◌∙◌, ap, ap₂, subst}
+use Rattle.std.proofs.Common.{◌≡◌, ℕ, true, Some, refl, sym, ap, ap₂, subst}
 use Rattle.stride_isa.specs.Changes.{applied}
 use Rattle.stride_isa.specs.declared.change.Change.{Change}
 use Rattle.sc_machine.specs.declared.end.End.{End}
@@ -10,10 +10,10 @@ use Rattle.sc_machine.specs.ThreadStep.{Row, Goes, Ends, Stands, stop_in}
 use Rattle.sc_machine.specs.Machine.{cells_after, holders_after, is_free_for, may_pass, put, word_read}
 use Rattle.interleavings.specs.declared.event.Event.{Event}
 use Rattle.interleavings.specs.declared.event.Event.TheVariants as events
-use Rattle.interleavings.specs.Events.{entered_by, left_by, word_given, write_of}
+use Rattle.interleavings.specs.Events.{word_given}
 use Rattle.interleavings.specs.RunEvents.{Exits, Enters, Reads, Updates, Writes, counts_after, event_made, plain}
 use Rattle.interleavings.specs.Walking.{IsMet}
-use Rattle.event_order.proofs.Fits.{World, Suits, cells_by, enters_by, held_by, world_after, writes_by}
+use Rattle.event_order.proofs.Fits.{World, Suits, world_after}
 
 -- the thread may go on at the stop, reads what the event gives it, and leaves what the event leaves
 pub record Meets (t : ℕ) (stop : Stop) (event : Event) (w : World) : Type 0 where

@@ -1,15 +1,14 @@
 -- The walk along steps back, one step more.
-use Rattle.std.proofs.Common.{◌≡◌, ◌≢◌, ℕ, zero, suc, ◌+◌, ◌<◌, ◌≤◌, ◌⊎◌, Bool, true, false, List, [], ◌∷◌, ◌++◌, Option, Some, None, length, refl, sym, ◌∙◌, ap, subst, inl, inr, arith}
+use Rattle.std.proofs.Common.{◌≡◌, ℕ, ◌<◌, ◌≤◌, ◌⊎◌, List, [], ◌∷◌, ◌++◌, Option, Some, None, length, refl, sym, ◌∙◌, ap, subst, inl, inr, arith}
 use Rattle.std.specs.Prelude.{IsSome, is_some, slice_get, if◌then◌else◌}
-use Rattle.std.proofs.lemmas.Bool.{cases_eq, cases_lt}
+use Rattle.std.proofs.lemmas.Bool.{cases_lt}
 use Rattle.std.proofs.lemmas.List.{length_push}
-use Rattle.std.proofs.lemmas.Option.{slice_get_past, slice_get_within}
+use Rattle.std.proofs.lemmas.Option.{slice_get_within}
 use Rattle.interleavings.specs.declared.traces.Place.{Place}
 use Rattle.event_order.specs.Backs.{AllRemain, IsBackOf, IsBefore, IsLeastOf, IsOnce, IsWalk, Remains, is_unmarked, unmarked_count}
-use Rattle.event_order.specs.Cycles.{Leads, first_or}
 use Rattle.event_order.specs.Deeds.{size}
 use Rattle.event_order.specs.Sums.{upto}
-use Rattle.event_order.specs.Tables.{IsPut, same_slot}
+use Rattle.event_order.specs.Tables.{IsPut}
 use Rattle.event_order.specs.declared.deed.Deed.{Deed}
 use Rattle.event_order.specs.declared.slot.Slot.{Slot}
 use Rattle.event_order.proofs.Leading.{first_or-append, leads_append}

@@ -1,5 +1,5 @@
 -- There is one least schedule at most.
-use Rattle.std.proofs.Common.{◌≡◌, ℕ, ◌<◌, ◌⊎◌, List, [], ◌∷◌, refl, sym, ap₂, subst, inl, inr, arith}
+use Rattle.std.proofs.Common.{◌≡◌, ℕ, List, [], ◌∷◌, refl, sym, ap₂, subst, inl, inr, arith}
 use Rattle.interleavings.specs.TraceLists.{TraceLists}
 use Rattle.event_order.specs.DirectOrder.{LinkRows}
 use Rattle.event_order.specs.Least.{IsLeast, NotBehind}
@@ -18,5 +18,5 @@ not_behind_both (x ∷ xs) (y ∷ ys) (inr first) (inr second) = ap₂ (λ z zs.
 pub one_least : (traces : TraceLists) (links : LinkRows) (one other : List ℕ) → IsLeast traces links one → IsLeast traces links other → one ≡ other
 one_least traces links one other first second =
     not_behind_both one other
-      (subst (NotBehind one) (sym second.of_places) (first.least second.places second.extends))
-      (subst (NotBehind other) (sym first.of_places) (second.least first.places first.extends))
+    (subst (NotBehind one) (sym second.of_places) (first.least second.places second.extends))
+    (subst (NotBehind other) (sym first.of_places) (second.least first.places first.extends))

@@ -1,5 +1,5 @@
 -- Steps of which each place has one at most lead from a start into one round.
-use Rattle.std.proofs.Common.{◌≡◌, ◌≢◌, ℕ, zero, suc, ◌+◌, ◌<◌, ◌≤◌, ◌⊎◌, List, [], ◌∷◌, ◌++◌, length, reverse, refl, sym, ◌∙◌, ap, ap₂, subst, inl, inr, arith}
+use Rattle.std.proofs.Common.{◌≡◌, ℕ, zero, suc, ◌⊎◌, List, [], ◌∷◌, length, reverse, refl, sym, ◌∙◌, ap, ap₂, subst, inl, inr, arith}
 use Rattle.std.specs.Prelude.{Contains}
 use Rattle.std.proofs.lemmas.List.{reverse-reverse}
 use Rattle.interleavings.specs.declared.traces.Place.{Place}
@@ -27,7 +27,6 @@ After steps zero at end = at ≡ end
 After steps (suc n) at end = (next : Place) × steps at next × After steps n next end
 
 module _ (steps : Place → Place → Type 0) (one_step : IsOneStep steps) where
-
   -- of two places that a place leads to, one leads to the other
   either_way : (n m : ℕ) (at one other : Place) → After steps n at one → After steps m at other → ((k : ℕ) × After steps k one other) ⊎ ((k : ℕ) × After steps k other one)
   unfolding After
@@ -80,7 +79,6 @@ module _ (steps : Place → Place → Type 0) (one_step : IsOneStep steps) where
       ap₂ (λ p ps. p ∷ ps) same (one_way z end ys zs (subst P same one.1) other.1 (λ later. apart (inr later)) (λ later. apart' (inr later)))
 
   module _ (start : Place) (round : List Place) (is : IsRoundFrom steps start round) where
-
     -- a round in the direction of its steps
     forwards : Leads steps (is.begin ∷ reverse is.others) is.begin
     forwards = leads_reverse (λ before after. steps after before) is.begin is.others is.begin (subst (IsRing (λ before after. steps after before)) is.parts is.goes_round)
@@ -116,7 +114,7 @@ module _ (steps : Place → Place → Type 0) (one_step : IsOneStep steps) where
       let P : Place → Type 0 = λ p. Leads steps (p ∷ reverse first.others) p in
       let Q : Place → Type 0 = λ p. Among p (reverse first.others) → ⊥ in
       let backwards : reverse first.others ≡ reverse second.others = one_way second.begin second.begin (reverse first.others) (reverse second.others)
-        (subst P begins (forwards start one first)) (forwards start other second) (subst Q begins (begin_apart start one first)) (begin_apart start other second) in
+      (subst P begins (forwards start one first)) (forwards start other second) (subst Q begins (begin_apart start one first)) (begin_apart start other second) in
       let others : first.others ≡ second.others = sym (reverse-reverse first.others) ∙ (ap reverse backwards ∙ reverse-reverse second.others) in
       first.parts ∙ (ap₂ (λ p ps. p ∷ ps) begins others ∙ sym second.parts)
 
@@ -129,4 +127,4 @@ pub one_cycle : (traces : TraceLists) (links : LinkRows) (one other : List Place
 one_cycle traces links one other first second =
     let starts : first.start ≡ second.start = at_most_both first.start second.start (first.least second.start second.left) (second.least first.start first.left) in
     one_round (StepsBack traces links) (one_back traces links) second.start one other
-      (subst (λ (p : Place). IsRoundFrom (StepsBack traces links) p one) starts first.round) second.round
+    (subst (λ (p : Place). IsRoundFrom (StepsBack traces links) p one) starts first.round) second.round

@@ -1,6 +1,6 @@
 -- An event is a direct predecessor of another where it comes right before it in its thread, or fills a slot that it needs.
-use Rattle.std.proofs.Common.{◌≡◌, ◌≢◌, ℕ, zero, suc, ◌+◌, ◌*◌, ◌<◌, ◌≤◌, ◌⊎◌, Bool, true, false, List, [], Option, Some, None, length, refl, sym, ◌∙◌, ap, ap₂, subst, inl, inr, arith, add-one}
-use Rattle.std.specs.Prelude.{is_some, slice_get, unwrap_or}
+use Rattle.std.proofs.Common.{◌≡◌, ℕ, zero, suc, ◌+◌, ◌*◌, ◌<◌, ◌⊎◌, true, List, Option, Some, None, refl, sym, ◌∙◌, ap, ap₂, subst, inl, inr, arith, add-one}
+use Rattle.std.specs.Prelude.{is_some, unwrap_or}
 use Rattle.std.specs.Option.{option_and_then, option_map}
 use Rattle.std.proofs.lemmas.Option.{slice_get_within, slice_get-get_or}
 use Rattle.interleavings.specs.declared.event.Event.{Event}
@@ -12,8 +12,8 @@ use Rattle.linkage.specs.Links.{link_at}
 use Rattle.linkage.specs.Sources.{event_at}
 use Rattle.event_order.specs.Backs.{Fills, IsNext}
 use Rattle.event_order.specs.Cycles.{Precedes}
-use Rattle.event_order.specs.Deeds.{AreDeedsOf, Needs, NeedsAt, deed_at, deed_in, deed_of, earlier, gives_at, gives_of, needs_of, needs_too_of, size, deeds_of}
-use Rattle.event_order.specs.DirectOrder.{Direct, EntersAt, LeavesAt, LinkRows, ReadsAt, WritesAt}
+use Rattle.event_order.specs.Deeds.{AreDeedsOf, Needs, NeedsAt, deed_at, deed_of, earlier, gives_at, gives_of, needs_of, needs_too_of, size, deeds_of}
+use Rattle.event_order.specs.DirectOrder.{Direct, LinkRows, ReadsAt, WritesAt}
 use Rattle.event_order.specs.Extensions.{IsPlace}
 use Rattle.event_order.specs.declared.deed.Deed.{Deed}
 use Rattle.event_order.specs.declared.deed.Deed.TheVariants as deeds

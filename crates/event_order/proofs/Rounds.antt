@@ -1,13 +1,12 @@
 -- The round that a walk ends in, backwards from its least place on.
-use Rattle.std.proofs.Common.{◌≡◌, ◌≢◌, ℕ, zero, suc, ◌+◌, ◌-◌, ◌<◌, ◌≤◌, ◌⊎◌, List, [], ◌∷◌, ◌++◌, Option, Some, None, length, get_or, take, drop, reverse, refl, sym, ◌∙◌, ap, ap₂, subst, inl, inr, arith}
+use Rattle.std.proofs.Common.{◌≡◌, ℕ, ◌+◌, ◌-◌, ◌<◌, ◌≤◌, List, ◌∷◌, ◌++◌, Some, length, take, drop, reverse, sym, ◌∙◌, ap, subst, inl, inr, arith}
 use Rattle.std.specs.Prelude.{Contains, slice_get}
-use Rattle.std.proofs.lemmas.Bool.{cases_lt}
-use Rattle.std.proofs.lemmas.List.{append_assoc, drop_more, get_or-reverse, get_or_default, get_or-take, get_or-drop, length-reverse, length-take, length-take-le, length-drop, reverse-append, take-append-drop}
+use Rattle.std.proofs.lemmas.List.{drop_more, get_or-reverse, get_or-take, get_or-drop, length-reverse, length-take, length-drop, reverse-append, take-append-drop}
 use Rattle.std.proofs.lemmas.List.Elements.{Contains-append_cases}
 use Rattle.std.proofs.lemmas.Option.{get_or_from_slice_get, slice_get-get_or, slice_get_within}
 use Rattle.interleavings.specs.declared.traces.Place.{Place}
-use Rattle.event_order.specs.Backs.{IsBackOf, IsOnce, IsTurned, IsWalked}
-use Rattle.event_order.specs.Cycles.{AtMost, IsRing, IsRoundFrom, Leads, first_or}
+use Rattle.event_order.specs.Backs.{IsBackOf, IsTurned, IsWalked}
+use Rattle.event_order.specs.Cycles.{IsRing, IsRoundFrom, Leads, first_or}
 use Rattle.event_order.specs.declared.deed.Deed.{Deed}
 use Rattle.event_order.proofs.Leading.{first_or-append, leads_append, leads_back, leads_front, leads_reverse}
 

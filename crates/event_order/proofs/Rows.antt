@@ -1,9 +1,8 @@
 -- Rows of what is kept for slots, with one more number or one more row, or with a value in place of another.
-use Rattle.std.proofs.Common.{◌≡◌, ◌≢◌, ℕ, zero, suc, ◌<◌, ◌≤◌, ◌==◌, ◌⊎◌, Bool, true, false, List, [], ◌∷◌, ◌++◌, Option, Some, None, length, get_or, set, map, refl, sym, ◌∙◌, ap, inl, inr, eq-eqb}
-use Rattle.std.specs.Prelude.{Vec}
-use Rattle.std.proofs.lemmas.Bool.{true≢false, cases_eq, ne_eqb, and_parts, eqb-true}
+use Rattle.std.proofs.Common.{◌≡◌, ◌≢◌, ℕ, zero, suc, ◌<◌, ◌==◌, ◌⊎◌, true, false, List, [], ◌∷◌, ◌++◌, Option, Some, None, length, get_or, set, refl, sym, ◌∙◌, ap, inl, inr, eq-eqb}
+use Rattle.std.proofs.lemmas.Bool.{true≢false, cases_eq, ne_eqb}
 use Rattle.std.proofs.lemmas.List.{get_or-set_same, get_or-set_other}
-use Rattle.event_order.specs.Tables.{entry, same_slot, rows_of}
+use Rattle.event_order.specs.Tables.{entry, same_slot}
 use Rattle.event_order.specs.declared.slot.Slot.{Slot}
 
 -- one more of what is read past the end changes nothing

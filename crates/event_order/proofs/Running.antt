@@ -1,10 +1,10 @@
 -- Thread numbers that fit are a run of the machine: each turn makes the next event of its thread.
-use Rattle.std.proofs.Common.{◌≡◌, ◌≢◌, ℕ, zero, suc, ◌+◌, ◌<◌, ◌≤◌, ◌==◌, ◌⊎◌, Bool, true, false, List, [], ◌∷◌, Option, Some, None, length, drop, map, get_or, refl, sym, ◌∙◌, ap, ap₂, subst, inl, inr, arith, eq-eqb}
+use Rattle.std.proofs.Common.{◌≡◌, ◌≢◌, ℕ, suc, ◌+◌, ◌<◌, ◌≤◌, ◌==◌, true, false, List, [], ◌∷◌, Some, length, drop, map, refl, sym, ◌∙◌, ap, ap₂, subst, inl, inr, arith, eq-eqb}
 use Rattle.std.proofs.Math.Seq.{drop-cons, drop-length}
 use Rattle.std.proofs.lemmas.Bool.{cases_eq, cases_lt, ne_eqb}
 use Rattle.std.proofs.lemmas.List.{get_or-set_same, get_or-set_other, length-set}
 use Rattle.std.proofs.lemmas.Option.{get_or_from_slice_get, slice_get_within}
-use Rattle.std.specs.Prelude.{slice_get, slice_set}
+use Rattle.std.specs.Prelude.{slice_get}
 use Rattle.stride_isa.specs.Listing.{Listing}
 use Rattle.sc_machine.specs.declared.stop.Stop.{Stop}
 use Rattle.sc_machine.specs.ThreadStep.{Thread, now, answered, settled, start_thread, stop_of}
@@ -12,10 +12,9 @@ use Rattle.sc_machine.specs.Machine.{Machine, can, cells_after, holders_after, m
 use Rattle.sc_machine.specs.Schedule.{turn, turned, turns}
 use Rattle.sc_machine.specs.Laws.{TurnByStop}
 use Rattle.interleavings.specs.declared.event.Event.{Event}
-use Rattle.interleavings.specs.Events.{word_given}
 use Rattle.interleavings.specs.EventStep.{after_event}
 use Rattle.interleavings.specs.Following.{turns_after}
-use Rattle.interleavings.specs.RunEvents.{Counts, RunEvent, counts_after, event_made, if_made, plain, turn_events}
+use Rattle.interleavings.specs.RunEvents.{Counts, counts_after, event_made, if_made, plain, turn_events}
 use Rattle.interleavings.specs.Walking.{Walks}
 use Rattle.event_order.proofs.Fits.{World, Fits, Suits, world_after}
 use Rattle.event_order.proofs.Meeting.{Meets, meets, stands_where_met}

@@ -1,5 +1,5 @@
 -- Extensions are runs: what was followed is what the machine does along any of them.
-use Rattle.std.proofs.Common.{◌≡◌, ◌≢◌, ℕ, zero, suc, ◌+◌, ◌<◌, ◌≤◌, ◌⊎◌, Bool, true, false, List, [], ◌∷◌, Option, Some, None, Result, Ok, Err, length, map, get_or, refl, sym, ◌∙◌, ap, ap₂, subst, inl, inr, arith}
+use Rattle.std.proofs.Common.{◌≡◌, ℕ, zero, suc, ◌+◌, ◌<◌, ◌≤◌, false, List, [], ◌∷◌, Option, Some, None, Result, Ok, Err, length, map, get_or, refl, sym, ◌∙◌, ap, subst, inl, inr, arith}
 use Rattle.std.proofs.lemmas.Bool.{true≢false, cases_lt}
 use Rattle.std.proofs.lemmas.List.{get_or_past, length-map, same_lists}
 use Rattle.std.proofs.Math.ListN.{get_or-map}
@@ -10,7 +10,7 @@ use Rattle.std.specs.Option.{option_and_then, option_map}
 use Rattle.stride_isa.specs.Listing.{Listing, start_of}
 use Rattle.sc_machine.specs.ThreadStep.{Thread, settled, start_thread}
 use Rattle.sc_machine.specs.Machine.{Machine, thread_at}
-use Rattle.sc_machine.specs.Schedule.{finished, ready, stopped, thread_numbers}
+use Rattle.sc_machine.specs.Schedule.{finished, ready, stopped}
 use Rattle.sc_machine.specs.Laws.{MadeAlongTurns, StartsSettle, TurnByStop}
 use Rattle.interleavings.specs.declared.event.Event.{Event}
 use Rattle.interleavings.specs.declared.event.Event.TheVariants as events
@@ -18,8 +18,8 @@ use Rattle.interleavings.specs.declared.event.LogEntry.{LogEntry}
 use Rattle.interleavings.specs.declared.traces.Place.{Place}
 use Rattle.interleavings.specs.Events.{TurnOf, entered_by, left_by}
 use Rattle.interleavings.specs.Following.{Divergence, Followed, follow, follow_all, follow_all_from, no_turns, thread_before}
-use Rattle.interleavings.specs.Laws.{EndsEnter, ExitsEndEnters, FollowedWalks, IsWalk}
-use Rattle.interleavings.specs.RunEvents.{no_counts, plain, run_events}
+use Rattle.interleavings.specs.Laws.{ExitsEndEnters, FollowedWalks, IsWalk}
+use Rattle.interleavings.specs.RunEvents.{no_counts, run_events}
 use Rattle.interleavings.specs.TraceLists.{IsInRange, TraceLists, events_of}
 use Rattle.interleavings.specs.Walking.{Walks}
 use Rattle.linkage.specs.declared.link_error.LinkError.{LinkError}
@@ -29,7 +29,7 @@ use Rattle.linkage.specs.Sources.{event_at}
 use Rattle.event_order.specs.DirectOrder.{EntersAt, LeavesAt, LinkRows}
 use Rattle.event_order.specs.Extensions.{IsExtension, schedule_of}
 use Rattle.event_order.specs.Laws.{AreInRange, IsRunOf, traces_of}
-use Rattle.event_order.proofs.Fits.{World, Fits}
+use Rattle.event_order.proofs.Fits.{World}
 use Rattle.event_order.proofs.Fitting.{extension-fits}
 use Rattle.event_order.proofs.Running.{IsAt, Leads, fitting-leads}
 use Rattle.event_order.proofs.Standing.{IsBegun, IsSound, IsStanding, cell_there}

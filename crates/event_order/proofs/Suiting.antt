@@ -1,18 +1,17 @@
 -- The next event of an extension suits what happened before it.
-use Rattle.std.proofs.Common.{◌≡◌, ◌≢◌, ℕ, ◌+◌, ◌-◌, ◌<◌, ◌≤◌, ◌⊎◌, Bool, true, false, Option, Some, None, length, refl, sym, ◌∙◌, ap, subst, inl, inr, arith}
+use Rattle.std.proofs.Common.{◌≡◌, ℕ, ◌+◌, ◌-◌, ◌<◌, ◌≤◌, Bool, true, false, Option, Some, None, refl, sym, ◌∙◌, ap, subst, inl, inr, arith}
 use Rattle.std.proofs.lemmas.Bool.{true≢false, cases_eq, cases_lt}
-use Rattle.interleavings.specs.declared.event.Event.{Event}
 use Rattle.interleavings.specs.declared.event.Event.TheVariants as events
 use Rattle.interleavings.specs.declared.traces.Place.{Place}
-use Rattle.interleavings.specs.Events.{WriteOf, TurnOf, read_of, write_of, entered_by, left_by}
+use Rattle.interleavings.specs.Events.{WriteOf, TurnOf}
 use Rattle.interleavings.specs.TraceLists.{TraceLists}
 use Rattle.linkage.specs.declared.link_error.LinkError.TheVariants.{WriteGap, TurnGap, UpdateMismatch}
 use Rattle.linkage.specs.Links.{IsLink, link_at}
-use Rattle.linkage.specs.Sources.{IsEntryAt, IsExitAt, IsWriteAt, Stored, event_at}
+use Rattle.linkage.specs.Sources.{IsExitAt, IsWriteAt, Stored, event_at}
 use Rattle.event_order.specs.DirectOrder.{Direct, LinkRows, WritesAt, ReadsAt, EntersAt, LeavesAt}
 use Rattle.event_order.specs.DirectOrder as direct
 use Rattle.event_order.proofs.Standing as holds
-use Rattle.event_order.proofs.Fits.{World, Suits, SuitsRead, SuitsWrite, SuitsEnter, SuitsExit}
+use Rattle.event_order.proofs.Fits.{World}
 use Rattle.event_order.proofs.Standing.{Holding, IsSound, IsStanding, begun_at, left_at, stored_there, write_at}
 use Rattle.event_order.proofs.Unique.{one_enter, one_value}
 

@@ -1,12 +1,12 @@
 -- For which slots deeds wait, as one deed more stands.
-use Rattle.std.proofs.Common.{◌≡◌, ◌≢◌, ℕ, zero, suc, ◌+◌, ◌*◌, ◌<◌, ◌≤◌, ◌⊎◌, Bool, true, false, List, [], Option, Some, None, length, refl, sym, ◌∙◌, ap, subst, inl, inr, arith, add-one}
+use Rattle.std.proofs.Common.{◌≡◌, ◌≢◌, ℕ, ◌+◌, ◌*◌, ◌<◌, ◌≤◌, true, false, List, [], Option, Some, None, length, refl, sym, ◌∙◌, ap, inl, inr, arith, add-one}
 use Rattle.std.specs.Prelude.{ltb, slice_set}
 use Rattle.std.proofs.lemmas.Bool.{cases_eq, cases_lt, le-ltb, lt-ltb}
 use Rattle.std.proofs.lemmas.List.{get_or_past, get_or-set_same, get_or-set_other, length-set}
 use Rattle.interleavings.specs.declared.traces.Place.{Place}
 use Rattle.event_order.specs.Backs.{Gives}
-use Rattle.event_order.specs.Deeds.{deeds_of, gives_at, size}
-use Rattle.event_order.specs.Fronts.{IsFront, IsRaised, awaited, awaited_of, done_of, is_given, none_done, waiting}
+use Rattle.event_order.specs.Deeds.{gives_at, size}
+use Rattle.event_order.specs.Fronts.{IsFront, IsRaised, awaited, awaited_of, done_of, is_given, waiting}
 use Rattle.event_order.specs.Sums.{upto}
 use Rattle.event_order.specs.Tables.{same_slot}
 use Rattle.event_order.specs.declared.deed.Deed.{Deed}

@@ -1,9 +1,8 @@
 -- Steps back among the deeds that don't stand.
-use Rattle.std.specs.Prelude.{◌≡◌, ℕ, ◌+◌, ◌<◌, ◌≤◌, ◌⊎◌, ◌==◌, ◌&&◌, ◌||◌, ltb, Bool, true, false, if◌then◌else◌, List, [], ◌∷◌, ◌++◌, Option, Some, None, length, reverse, take, drop, is_some, slice_get}
+use Rattle.std.specs.Prelude.{◌≡◌, ℕ, ◌+◌, ◌<◌, ◌≤◌, ◌⊎◌, ◌==◌, ◌&&◌, ◌||◌, ltb, Bool, if◌then◌else◌, List, ◌∷◌, ◌++◌, Option, Some, None, length, reverse, take, drop, is_some, slice_get}
 use Rattle.interleavings.specs.declared.traces.Place.{Place}
 use Rattle.event_order.specs.Cycles.{AtMost, Leads, first_or}
-use Rattle.event_order.specs.Deeds.{NeedsAt, deed_at, gives_at, size}
-use Rattle.event_order.specs.Fronts.{done_of}
+use Rattle.event_order.specs.Deeds.{NeedsAt, gives_at, size}
 use Rattle.event_order.specs.Sums.{upto}
 use Rattle.event_order.specs.declared.deed.Deed.{Deed}
 use Rattle.event_order.specs.declared.slot.Slot.{Slot}

@@ -1,5 +1,5 @@
 -- What events are to the order: which slot an event fills, and which slots have to be filled before it.
-use Rattle.std.specs.Prelude.{◌≡◌, ℕ, zero, suc, ◌+◌, ◌*◌, ◌<◌, ◌≤◌, ◌⊎◌, Bool, true, List, [], Option, Some, None, length, is_some, unwrap_or, slice_get, slice_index_or, option_and_then, option_map}
+use Rattle.std.specs.Prelude.{◌≡◌, ℕ, zero, suc, ◌+◌, ◌*◌, ◌<◌, ◌⊎◌, List, [], Option, Some, None, length, unwrap_or, slice_get, slice_index_or, option_and_then, option_map}
 use Rattle.interleavings.specs.declared.event.Event.{Event}
 use Rattle.interleavings.specs.declared.event.Event.TheVariants as events
 use Rattle.interleavings.specs.declared.traces.Place.{Place}

@@ -1,7 +1,6 @@
 -- The direct order of events: which event has to come before which, by the program of their thread, by the numbers of
 -- writes and the links of reads, and by the turns of monitors.
 use Rattle.std.specs.Prelude.{◌≡◌, ℕ, ◌+◌, List, Option, Some, option_and_then}
-use Rattle.std.specs.List.{slice_index_or}
 use Rattle.interleavings.specs.declared.traces.Place.{Place}
 use Rattle.interleavings.specs.Events.{WriteOf, ReadOf, TurnOf, write_of, read_of, entered_by, left_by}
 use Rattle.interleavings.specs.TraceLists.{TraceLists}

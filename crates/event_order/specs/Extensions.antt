@@ -1,5 +1,5 @@
 -- Extensions of the direct order: lists of all events in which each comes after its direct predecessors.
-use Rattle.std.specs.Prelude.{◌≡◌, ℕ, ◌==◌, ◌&&◌, Bool, true, false, IsTrue, if◌then◌else◌, List, [], ◌∷◌, map, is_some}
+use Rattle.std.specs.Prelude.{◌≡◌, ℕ, ◌==◌, ◌&&◌, Bool, true, false, if◌then◌else◌, List, [], ◌∷◌, map, is_some}
 use Rattle.interleavings.specs.declared.traces.Place.{Place}
 use Rattle.interleavings.specs.TraceLists.{TraceLists}
 use Rattle.linkage.specs.Sources.{event_at}

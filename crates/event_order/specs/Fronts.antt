@@ -1,5 +1,5 @@
 -- How far the threads are: which deeds stand, for which slots deeds still wait, and what an order has kept on its way.
-use Rattle.std.specs.Prelude.{◌≡◌, ◌≢◌, ℕ, ◌+◌, ◌*◌, ◌<◌, ◌≤◌, ltb, Bool, true, false, IsTrue, if◌then◌else◌, List, [], ◌++◌, Option, Some, None, length, is_some, unwrap_or, slice_index_or}
+use Rattle.std.specs.Prelude.{◌≡◌, ◌≢◌, ℕ, ◌+◌, ◌<◌, ◌≤◌, ltb, Bool, true, false, if◌then◌else◌, List, ◌++◌, Option, Some, None, length, unwrap_or, slice_index_or}
 use Rattle.interleavings.specs.declared.traces.Place.{Place}
 use Rattle.interleavings.specs.TraceLists.{TraceLists}
 use Rattle.event_order.specs.Cycles.{IsStuck}

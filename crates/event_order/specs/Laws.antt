@@ -1,7 +1,6 @@
 -- What holds of the direct order, whatever the program and the logs are.
-use Rattle.std.specs.Prelude.{◌≡◌, ℕ, ◌≤◌, ◌<◌, List, length, map, Ok, Some}
+use Rattle.std.specs.Prelude.{◌≡◌, ℕ, ◌≤◌, ◌⊎◌, List, length, map, Ok, Some}
 use Rattle.stride_isa.specs.Listing.{Listing, starts_of}
-use Rattle.sc_machine.specs.ThreadStep.{Thread}
 use Rattle.sc_machine.specs.Machine.{Machine}
 use Rattle.sc_machine.specs.Schedule.{replayed}
 use Rattle.interleavings.specs.declared.event.Event.{Event}
@@ -50,3 +49,7 @@ OneLeast = (traces : TraceLists) (links : LinkRows) (one other : List ℕ) → I
 -- there is one cycle at most that is told
 abbrev pub OneCycle : Type 0
 OneCycle = (traces : TraceLists) (links : LinkRows) (one other : List Place) → IsTheCycle traces links one → IsTheCycle traces links other → one ≡ other
+
+-- of linked events there is the least schedule, or the cycle that is told
+abbrev pub LeastOrCycle : Type 0
+LeastOrCycle = (traces : TraceLists) (links : LinkRows) → IsLinked traces links → ((schedule : List ℕ) × IsLeast traces links schedule) ⊎ ((cycle : List Place) × IsTheCycle traces links cycle × IsCycle traces links cycle)

@@ -1,5 +1,5 @@
 -- What a table keeps for slots.
-use Rattle.std.specs.Prelude.{◌≡◌, ℕ, ◌==◌, ◌&&◌, Bool, false, List, [], map, Option, Some, None, unwrap_or, slice_get}
+use Rattle.std.specs.Prelude.{◌≡◌, ◌==◌, ◌&&◌, Bool, false, List, [], map, Option, Some, None}
 use Rattle.std.specs.Prelude.{Vec, slice_index_or}
 use Rattle.event_order.specs.declared.slot.Slot.{Slot}
 

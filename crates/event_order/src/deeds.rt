@@ -12,7 +12,7 @@ use std::alloc::Global;
 use std::marker::Model;
 use std::sync::ledger::Ledger;
 use stride_base::{NoMemory, Steps};
-use stride_isa::limits::FUEL_LIMIT;
+use stride_isa::limits::{FUEL_LIMIT, THREAD_LIMIT};
 
 /// What the events of each thread are to the order. It is seen as a list for each thread.
 #[derive(Drop)]
@@ -22,7 +22,7 @@ pub(crate) struct Deeds {
 
 impl Model for Deeds {
     ghost use Rattle.std.specs.Prelude.{ℕ, ◌≤◌, List, length};
-    ghost use Rattle.stride_isa.specs.declared.limits.TheConstants.{FUEL_LIMIT};
+    ghost use Rattle.stride_isa.specs.Limits.{fuel_limit, thread_limit};
     ghost use Rattle.event_order.specs.declared.deed.Deed.{Deed};
     ghost use Rattle.event_order.specs.Deeds.{size as count_of};
     ghost use Rattle.event_order.specs.Tables.{rows_of};
@@ -31,7 +31,7 @@ impl Model for Deeds {
 
     ghost view = { λ deeds. rows_of deeds.rows.items };
 
-    ghost invariant = { λ deeds. (length deeds.rows.items ≤ 16) × ((thread : ℕ) → count_of (rows_of deeds.rows.items) thread ≤ FUEL_LIMIT) };
+    ghost invariant = { λ deeds. (length deeds.rows.items ≤ thread_limit) × ((thread : ℕ) → count_of (rows_of deeds.rows.items) thread ≤ fuel_limit) };
 }
 
 // What the events of a thread are to the order.
@@ -79,7 +79,7 @@ impl Deeds {
     /// How many threads there are.
     pub(crate) fn threads(&self) -> u32
         ensures count { result ≡ length self.now }
-        ensures small { result ≤ 16 }
+        ensures small { result ≤ THREAD_LIMIT }
         ensures few { (thread : ℕ) → size self.now thread ≤ FUEL_LIMIT }
     {
         self.rows.len() as u32

@@ -1,5 +1,5 @@
 //! `Front`: how far the threads of an order are, and for which slots deeds still wait.
-ghost use Rattle.std.specs.Prelude.{◌≡◌, ℕ, ◌+◌, ◌*◌, ◌<◌, ◌≤◌, ◌↔◌, length, IfOk, OnOk, IsTrue, Some as Found};
+ghost use Rattle.std.specs.Prelude.{◌≡◌, ℕ, ◌+◌, ◌-◌, ◌*◌, ◌<◌, ◌≤◌, ◌↔◌, length, IfOk, OnOk, IsTrue, Some as Found};
 ghost use Rattle.event_order.specs.Deeds.{size};
 ghost use Rattle.event_order.specs.Fronts.{awaited_of, counted, done_of, is_given, none_done, waiting, IsFirstReady, IsFront, IsRaised, IsReady};
 ghost use Rattle.event_order.specs.Sums.{upto};
@@ -12,7 +12,7 @@ use crate::table::Table;
 use interleavings::Place;
 use std::alloc::Global;
 use stride_base::NoMemory;
-use stride_isa::limits::FUEL_LIMIT;
+use stride_isa::limits::{FUEL_LIMIT, THREAD_LIMIT};
 
 /// How many deeds of each thread stand, and of the others how many fill each slot.
 #[derive(Drop)]
@@ -59,7 +59,7 @@ fn tally_thread(
     table: &mut Table<u32>,
 ) -> Result<(), NoMemory>
     requires thread { thread < length deeds.now }
-    requires few { (slot : Numbered) → counted (rows_of table.old.rows.items) slot ≤ 15 * FUEL_LIMIT }
+    requires few { (slot : Numbered) → counted (rows_of table.old.rows.items) slot ≤ (THREAD_LIMIT - 1) * FUEL_LIMIT }
     ensures { OnOk result ((slot : Numbered) → counted (rows_of table.new.rows.items) slot ≡ counted (rows_of table.old.rows.items) slot + awaited_of deeds.now none_done slot thread) }
 {
     for place in 0..deeds.count(thread) {
@@ -96,7 +96,7 @@ impl Front {
         ensures front { IfOk result (λ front. IsFront deeds.now (counted (rows_of front.waiting.rows.items)) front.done.items) }
         ensures none { IfOk result (λ front. (thread : ℕ) → done_of front.done.items thread ≡ 0) }
         ensures few { (thread : ℕ) → size deeds.now thread ≤ FUEL_LIMIT }
-        ensures small { length deeds.now ≤ 16 }
+        ensures small { length deeds.now ≤ THREAD_LIMIT }
     {
         let threads = deeds.threads();
         Ok(Front {

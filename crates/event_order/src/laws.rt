@@ -1,6 +1,6 @@
 //! Laws of the direct order, over its definitions alone. Each is the contract of a function that does nothing but cite laws
 //! of the crates below.
-ghost use Rattle.event_order.specs.Laws.{CyclesExclude, ExtensionsAreRuns, OneCycle, OneLeast};
+ghost use Rattle.event_order.specs.Laws.{CyclesExclude, ExtensionsAreRuns, LeastOrCycle, OneCycle, OneLeast};
 
 use interleavings::{exits_end_enters, followed_walks};
 use sc_machine::{replay_along_turns, starts_settle, turn_by_stop};
@@ -20,17 +20,19 @@ pub fn extensions_are_runs()
 /// Where there is a cycle there is no extension.
 pub fn cycles_exclude()
     ensures { CyclesExclude }
-{
-}
+{}
 
 /// There is one least schedule at most.
 pub fn one_least()
     ensures { OneLeast }
-{
-}
+{}
 
 /// There is one cycle at most that is told.
 pub fn one_cycle()
     ensures { OneCycle }
-{
-}
+{}
+
+/// Linked events have a least schedule, or a cycle that is told.
+pub fn least_or_cycle()
+    ensures { LeastOrCycle }
+{}

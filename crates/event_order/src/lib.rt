@@ -11,9 +11,11 @@ mod laws;
 mod order_error;
 mod slot;
 mod table;
+#[cfg(test)]
+mod tests;
 mod turning;
 mod walking;
 
 pub use arranging::arrange;
-pub use laws::{cycles_exclude, extensions_are_runs, one_cycle, one_least};
+pub use laws::{cycles_exclude, extensions_are_runs, least_or_cycle, one_cycle, one_least};
 pub use order_error::OrderError;

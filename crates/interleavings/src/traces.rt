@@ -2,7 +2,7 @@
 ghost use Rattle.std.specs.Prelude.{◌≡◌, ◌+◌, ◌<◌, ◌≤◌, [], ◌∷◌, ◌++◌, length, map, replicate, slice_index, slice_set, IfOk, OnOk, OnErr};
 ghost use Rattle.std.specs.List.{slice_index_or};
 ghost use Rattle.stride_isa.specs.Listing.{starts_of};
-ghost use Rattle.interleavings.specs.TraceLists.{IsInRange, events_of, no_events as none, with_event_of};
+ghost use Rattle.interleavings.specs.TraceLists.{IsInRange, IsTraces, events_of, no_events as none, with_event_of};
 
 use crate::event::Event;
 use std::alloc::Global;
@@ -96,10 +96,12 @@ impl Traces {
         push_to(&mut self.events, thread, event)
     }
 
-    /// How many threads there are.
+    /// How many threads there are. It tells besides what always holds of traces: they are within the limits, and each event is of a
+    /// cell or a monitor that is there.
     pub fn threads(&self) -> u32
         ensures count { result ≡ length self.now.events }
         ensures small { result ≤ THREAD_LIMIT }
+        ensures kept { IsTraces self.now }
     {
         self.events.len() as u32
     }

@@ -37,9 +37,10 @@ WriteGiven traces source item = IsWriteAt traces source item.owner item.number i
 abbrev pub AreStartingWrites : TraceLists → ℕ → List (Numbered ℕ) → Type 0
 AreStartingWrites traces cells items = IsAllOf (StartsGiven (WriteGiven traces) cells) items × (length items ≡ cells)
 
--- turn 0 of the monitors below this number
+-- turn 0, which no event begins or ends
 abbrev pub TurnZero : Option Place → Numbered (Unit {0}) → Type 0
 TurnZero source item = item.number ≡ 0
 
+-- turn 0 of the monitors below this number
 abbrev pub AreStartingTurns : ℕ → List (Numbered (Unit {0})) → Type 0
 AreStartingTurns monitors items = IsAllOf (StartsGiven TurnZero monitors) items

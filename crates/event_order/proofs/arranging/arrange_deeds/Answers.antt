@@ -1,8 +1,8 @@
-use Rattle.std.proofs.Common.{◌≡◌, List, ℕ, Some, subst, sym, ◌∙◌}
+use Rattle.std.proofs.Common.{List, ℕ, Some, subst, sym}
 use Rattle.interleavings.specs.declared.traces.Place.{Place}
 use Rattle.event_order.specs.Backs.{AllRemain, IsBackOf, IsLeastOf, Remains}
 use Rattle.event_order.specs.Cycles.{IsRoundFrom}
-use Rattle.event_order.specs.Fronts.{IsExtended, done_of}
+use Rattle.event_order.specs.Fronts.{done_of}
 use Rattle.event_order.proofs.Answering.{least_and_no_cycle, remaining, the_cycle}
 use Rattle.event_order.proofs.arranging.arrange_deeds.Goals as goal
 

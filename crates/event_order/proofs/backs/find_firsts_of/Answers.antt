@@ -1,5 +1,4 @@
-use Rattle.std.proofs.Common.{◌≡◌, ◌≤◌, arith, ap, sym, subst}
-use Rattle.event_order.specs.Backs.{IsKeptFirst}
+use Rattle.std.proofs.Common.{arith}
 use Rattle.event_order.specs.Fronts.{done_of}
 use Rattle.event_order.specs.Tables.{entry, rows_of}
 use Rattle.event_order.proofs.Firsts.{firsts_begin, firsts_end, firsts_more}

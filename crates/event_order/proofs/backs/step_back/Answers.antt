@@ -1,7 +1,5 @@
-use Rattle.std.proofs.Common.{◌≡◌, Some, sym, ◌∙◌, ap, subst}
-use Rattle.std.specs.Prelude.{option_and_then}
-use Rattle.event_order.specs.Backs.{IsBefore, IsLeastOf, lesser_of}
-use Rattle.event_order.specs.Deeds.{deed_at, needs_of, needs_too_of}
+use Rattle.std.proofs.Common.{◌≡◌, Some, sym}
+use Rattle.event_order.specs.Deeds.{deed_at}
 use Rattle.event_order.specs.Fronts.{done_of}
 use Rattle.event_order.specs.Tables.{entry, rows_of}
 use Rattle.event_order.proofs.Firsts.{back_least}

@@ -1,11 +1,10 @@
-use Rattle.std.proofs.Common.{◌≡◌, ◌+◌, ◌*◌, ◌<◌, ◌≤◌, ◌++◌, ◌∷◌, [], Some, length, subst, sym, ◌∙◌, ap, arith}
+use Rattle.std.proofs.Common.{◌≡◌, Some, sym, ◌∙◌, ap, arith}
 use Rattle.std.proofs.lemmas.Option.{slice_get_read}
 use Rattle.interleavings.specs.declared.traces.Place.{Place}
 use Rattle.interleavings.specs.TraceLists.{events_of}
 use Rattle.linkage.specs.Links.{link_at}
-use Rattle.linkage.specs.Sources.{event_at}
 use Rattle.std.specs.Prelude.{option_map}
-use Rattle.event_order.specs.Deeds.{IsRowOf, deed_in, deed_of}
+use Rattle.event_order.specs.Deeds.{deed_in, deed_of}
 use Rattle.event_order.proofs.Making.{row_more}
 use Rattle.event_order.proofs.deeds.row_of.Goals as goal
 

@@ -1,4 +1,3 @@
-use Rattle.std.proofs.Common.{◌≡◌, sym}
 use Rattle.event_order.specs.Fronts.{counted, done_of}
 use Rattle.event_order.specs.Tables.{rows_of}
 use Rattle.event_order.proofs.Greedy.{kept_more, kept_start, next_there, rest_falls}

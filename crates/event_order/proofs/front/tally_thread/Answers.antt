@@ -1,6 +1,4 @@
-use Rattle.std.proofs.Common.{◌≡◌, ◌+◌, ◌≤◌, arith, ap, ◌∙◌}
-use Rattle.interleavings.specs.declared.traces.Place.{Place}
-use Rattle.event_order.specs.Deeds.{gives_at}
+use Rattle.std.proofs.Common.{arith, ap}
 use Rattle.event_order.specs.Fronts.{awaited, is_given, none_done}
 use Rattle.event_order.proofs.Waiting.{awaited_few, awaited_left, upto_more}
 use Rattle.event_order.proofs.front.tally_thread.Goals as goal

@@ -1,6 +1,5 @@
 use Rattle.std.proofs.Common.{◌≡◌, ◌∙◌, ap}
 use Rattle.std.proofs.lemmas.List.{length_push}
-use Rattle.event_order.specs.Fronts.{done_of}
 use Rattle.event_order.proofs.Rows.{pushed_default}
 use Rattle.event_order.proofs.front.zeros.Goals as goal
 

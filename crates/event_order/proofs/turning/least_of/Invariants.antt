@@ -1,4 +1,4 @@
-use Rattle.std.proofs.Common.{ℕ, ◌<◌, length}
+use Rattle.std.proofs.Common.{◌<◌, length}
 use Rattle.event_order.specs.Backs.{IsLeastAt}
 use Rattle.event_order.proofs.turning.least_of.Given as goal
 

@@ -1,6 +1,4 @@
-use Rattle.std.proofs.Common.{◌≡◌, ℕ, ◌+◌, ◌<◌, [], ◌∷◌, ◌++◌, Option, Some, None, length, refl, sym, ◌∙◌, ap, subst}
-use Rattle.interleavings.specs.declared.traces.Place.{Place}
-use Rattle.event_order.specs.Backs.{IsBackOf, IsBefore, IsLeastOf, IsWalk}
+use Rattle.std.proofs.Common.{◌≡◌, ℕ, None, length, sym, ◌∙◌, ap, subst}
 use Rattle.event_order.specs.Fronts.{done_of}
 use Rattle.event_order.specs.Tables.{IsPut, entry, rows_of}
 use Rattle.event_order.specs.declared.slot.Slot.{Slot}

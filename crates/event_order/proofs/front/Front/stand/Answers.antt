@@ -1,8 +1,7 @@
-use Rattle.std.proofs.Common.{◌≡◌, ℕ, ◌+◌, ◌<◌, ◌≤◌, ◌⊎◌, Some, inl, inr, length, arith, ap, sym, ◌∙◌}
+use Rattle.std.proofs.Common.{◌≡◌, ◌+◌, ◌<◌, inl, inr, length, arith, ap, sym, ◌∙◌}
 use Rattle.std.proofs.lemmas.Bool.{cases_lt}
 use Rattle.std.proofs.lemmas.List.{get_or_read}
 use Rattle.interleavings.specs.declared.traces.Place.{Place}
-use Rattle.event_order.specs.Deeds.{gives_at, size}
 use Rattle.event_order.specs.Fronts.{counted, done_of, is_given, waiting}
 use Rattle.event_order.specs.Tables.{rows_of}
 use Rattle.event_order.proofs.Waiting.{front_raised, thread_there, waiting_for}

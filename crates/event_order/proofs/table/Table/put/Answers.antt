@@ -1,4 +1,4 @@
-use Rattle.std.proofs.Common.{◌≡◌, ℕ, ◌<◌, [], None, Some, length, get_or, set, sym, ◌∙◌, ap}
+use Rattle.std.proofs.Common.{◌≡◌, ℕ, ◌<◌, [], None, Some, length, get_or, sym, ◌∙◌, ap}
 use Rattle.std.proofs.lemmas.List.{length-map, map-set, get_or-map}
 use Rattle.event_order.specs.Tables.{entry, rows_of}
 use Rattle.event_order.proofs.Rows.{put_here, put_other}
