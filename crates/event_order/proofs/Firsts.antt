@@ -36,14 +36,14 @@ least_same one other None there back none = λ at is. none at (back at is)
 least_same one other (Some first) there back least = (there first least.0, λ at is. least.1 at (back at is))
 
 -- a place that is behind another is at most it
-behind_at_most : (a b : Place) → is_behind a b ≡ true → AtMost a b
+pub behind_at_most : (a b : Place) → is_behind a b ≡ true → AtMost a b
 behind_at_most a b is = elim (or_cases (ltb a.thread b.thread) ((a.thread == b.thread) && ltb a.place b.place) is) [
   | inl less ↦ inl (ltb-true a.thread b.thread less)
   | inr both ↦ let parts = and_parts (a.thread == b.thread) (ltb a.place b.place) both in inr (eqb-true a.thread b.thread parts.0, (let less = ltb-true a.place b.place parts.1 in omega arith))
 ]
 
 -- otherwise the other is
-ahead_at_most : (a b : Place) → is_behind a b ≡ false → AtMost b a
+pub ahead_at_most : (a b : Place) → is_behind a b ≡ false → AtMost b a
 ahead_at_most a b is =
     let parts = or_parts (ltb a.thread b.thread) ((a.thread == b.thread) && ltb a.place b.place) is in
     let thread = ltb-false a.thread b.thread parts.0 in

@@ -9,7 +9,7 @@ use Rattle.event_order.specs.Laws.{LeastOrCycle}
 use Rattle.event_order.specs.Least.{IsLeast}
 use Rattle.event_order.specs.declared.deed.Deed.{Deed}
 use Rattle.event_order.proofs.Answering.{least_and_no_cycle, remaining, the_cycle}
-use Rattle.event_order.proofs.Deciding.{least_place}
+use Rattle.event_order.proofs.LeastPlaces.{least_place}
 use Rattle.event_order.proofs.Reaching.{reached}
 use Rattle.event_order.proofs.Rendering.{deeds_there}
 use Rattle.event_order.proofs.Returning.{known_remains, round_there}

@@ -1,3 +1,4 @@
+mod Examples
 pub mod Answering
 pub mod Counted
 pub mod Deciding
@@ -9,6 +10,7 @@ pub mod Greedy
 pub mod Keeping
 pub mod Leading
 pub mod LeastOrCycle
+pub mod LeastPlaces
 pub mod Making
 pub mod Meeting
 pub mod Meets

@@ -5,7 +5,8 @@ use Rattle.std.proofs.lemmas.Bool.{cases_lt}
 use Rattle.std.proofs.lemmas.List.{length_push}
 use Rattle.std.proofs.lemmas.Option.{slice_get_within}
 use Rattle.interleavings.specs.declared.traces.Place.{Place}
-use Rattle.event_order.specs.Backs.{AllRemain, IsBackOf, IsBefore, IsLeastOf, IsOnce, IsWalk, Remains, is_unmarked, unmarked_count}
+use Rattle.event_order.specs.Backs.{AllRemain, IsBackOf, IsBefore, IsLeastOf, IsWalk, Remains, is_unmarked, unmarked_count}
+use Rattle.event_order.specs.Following.{IsOnce}
 use Rattle.event_order.specs.Deeds.{size}
 use Rattle.event_order.specs.Sums.{upto}
 use Rattle.event_order.specs.Tables.{IsPut}

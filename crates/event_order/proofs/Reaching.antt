@@ -5,12 +5,12 @@ use Rattle.std.specs.Prelude.{slice_set}
 use Rattle.std.proofs.lemmas.Bool.{cases_lt}
 use Rattle.std.proofs.lemmas.List.{get_or-set_same, get_or-set_other, length-map}
 use Rattle.interleavings.specs.declared.traces.Place.{Place}
+use Rattle.event_order.proofs.Deciding.{Known, least_below}
 use Rattle.event_order.specs.Deeds.{Needs, deed_at, needs_of, needs_too_of, size}
 use Rattle.event_order.specs.Fronts.{IsExtended, IsFront, IsKept, IsRaised, IsReady, done_of, waiting}
 use Rattle.event_order.specs.Sums.{upto}
 use Rattle.event_order.specs.declared.deed.Deed.{Deed}
 use Rattle.event_order.specs.declared.slot.Slot.{Slot}
-use Rattle.event_order.proofs.Deciding.{Known, least_below}
 use Rattle.event_order.proofs.Greedy.{kept_more, kept_start, next_there, rest_falls}
 use Rattle.event_order.proofs.Waiting.{front_raised, waiting_raised}
 

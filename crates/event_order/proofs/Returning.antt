@@ -5,13 +5,15 @@ use Rattle.std.proofs.lemmas.Bool.{cases_eq, cases_lt, cases_order}
 use Rattle.std.proofs.lemmas.List.{length-drop}
 use Rattle.std.proofs.lemmas.Option.{slice_get_within}
 use Rattle.interleavings.specs.declared.traces.Place.{Place}
-use Rattle.event_order.specs.Backs.{AllRemain, Fills, IsBackOf, IsBefore, IsLeastOf, IsNext, IsTurned, IsWalk, IsWalked, Remains, unmarked_count}
+use Rattle.event_order.proofs.Deciding.{Known, known_as, known_both}
+use Rattle.event_order.specs.Backs.{AllRemain, Fills, IsBackOf, IsBefore, IsLeastOf, IsNext, IsWalk, Remains, unmarked_count}
 use Rattle.event_order.specs.Cycles.{AtMost, IsRoundFrom}
 use Rattle.event_order.specs.Deeds.{Needs, NeedsAt, deed_at, gives_at, needs_of, needs_too_of, size}
+use Rattle.event_order.specs.Following.{IsTurned, IsWalked}
 use Rattle.event_order.specs.Tables.{IsPut, same_slot}
 use Rattle.event_order.specs.declared.deed.Deed.{Deed}
 use Rattle.event_order.specs.declared.slot.Slot.{Slot}
-use Rattle.event_order.proofs.Deciding.{Known, known_as, known_both, known_either, known_slot, least_place}
+use Rattle.event_order.proofs.LeastPlaces.{known_either, known_slot, least_place}
 use Rattle.event_order.proofs.Firsts.{at_most_same, at_most_through}
 use Rattle.event_order.proofs.Meets.{back_is, mark_less, mark_of, walk_more, walk_start}
 use Rattle.event_order.proofs.Rounds.{round_from}
@@ -139,7 +141,7 @@ module _ (rows : List (List Deed)) (done : ℕ → ℕ) where
       record Walked : Type 0 where
         met : List Place
         again : ℕ
-        walked : IsWalked rows done first met again
+        walked : IsWalked (IsBackOf rows done) first met again
 
       -- a walk goes on until a place is met again
       walk_on : (fuel : ℕ) (met : List Place) (marks : Slot → Option ℕ) (at : Place) → unmarked_count rows marks < fuel → IsWalk rows done first met marks at → Walked
@@ -163,4 +165,4 @@ module _ (rows : List (List Deed)) (done : ℕ → ℕ) where
           let ring = drop walk.again walk.met in
           let some : 0 < length ring = (let count = length-drop walk.again walk.met in let inside = slice_get_within walk.met walk.again walk.walked.at walk.walked.there in omega arith) in
           let turned = turned_there ring some in
-          (turned.0, round_from rows done first walk.met walk.again walk.walked turned.0 turned.1)
+          (turned.0, round_from (IsBackOf rows done) first walk.met walk.again walk.walked turned.0 turned.1)

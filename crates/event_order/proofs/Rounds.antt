@@ -1,14 +1,40 @@
 -- The round that a walk ends in, backwards from its least place on.
-use Rattle.std.proofs.Common.{◌≡◌, ℕ, ◌+◌, ◌-◌, ◌<◌, ◌≤◌, List, ◌∷◌, ◌++◌, Some, length, take, drop, reverse, sym, ◌∙◌, ap, subst, inl, inr, arith}
+use Rattle.std.proofs.Common.{◌≡◌, ℕ, ◌+◌, ◌-◌, ◌<◌, ◌≤◌, List, ◌∷◌, ◌++◌, Some, length, take, drop, reverse, sym, ◌∙◌, ap, subst, inl, inr, arith, true, false, ◌⊎◌, get_or}
 use Rattle.std.specs.Prelude.{Contains, slice_get}
+use Rattle.std.proofs.lemmas.Bool.{cases_lt}
 use Rattle.std.proofs.lemmas.List.{drop_more, get_or-reverse, get_or-take, get_or-drop, length-reverse, length-take, length-drop, reverse-append, take-append-drop}
 use Rattle.std.proofs.lemmas.List.Elements.{Contains-append_cases}
 use Rattle.std.proofs.lemmas.Option.{get_or_from_slice_get, slice_get-get_or, slice_get_within}
 use Rattle.interleavings.specs.declared.traces.Place.{Place}
-use Rattle.event_order.specs.Backs.{IsBackOf, IsTurned, IsWalked}
-use Rattle.event_order.specs.Cycles.{IsRing, IsRoundFrom, Leads, first_or}
-use Rattle.event_order.specs.declared.deed.Deed.{Deed}
+use Rattle.event_order.specs.Backs.{IsLeastAt, is_behind}
+use Rattle.event_order.specs.Following.{IsFollowed, IsTurned, IsWalked}
+use Rattle.event_order.specs.Cycles.{AtMost, IsRing, IsRoundFrom, Leads, first_or}
+use Rattle.event_order.proofs.Firsts.{ahead_at_most, at_most_same, at_most_through, behind_at_most}
 use Rattle.event_order.proofs.Leading.{first_or-append, leads_append, leads_back, leads_front, leads_reverse}
+
+-- one place more, of which the lesser is kept
+pub least_more : (ring : List Place) (i best next : ℕ) (d : Place) → i < length ring → best < length ring → IsLeastAt ring i best → ((is_behind (get_or ring i d) (get_or ring best d) ≡ true) × (next ≡ i)) ⊎ ((is_behind (get_or ring i d) (get_or ring best d) ≡ false) × (next ≡ best)) → IsLeastAt ring (i + 1) next
+least_more ring i best next d here there least (inl new) j at kept small is kept_is =
+    let number : get_or ring next d ≡ kept = get_or_from_slice_get ring next kept d kept_is in
+    let same : get_or ring i d ≡ kept = ap (λ n. get_or ring n d) (sym new.1) ∙ number in
+    elim (cases_lt j i) [
+      | inl before ↦
+          subst (λ (p : Place). AtMost p at) same
+          (at_most_through (get_or ring i d) (get_or ring best d) at (behind_at_most (get_or ring i d) (get_or ring best d) new.0)
+          (least j at (get_or ring best d) before is (slice_get-get_or ring best d there)))
+      | inr last ↦
+          let place : get_or ring j d ≡ at = get_or_from_slice_get ring j at d is in
+          at_most_same kept at (sym same ∙ (ap (λ n. get_or ring n d) (let end : i ≡ j = omega arith in end) ∙ place))
+    ]
+least_more ring i best next d here there least (inr old) j at kept small is kept_is =
+    let number : get_or ring next d ≡ kept = get_or_from_slice_get ring next kept d kept_is in
+    let same : get_or ring best d ≡ kept = ap (λ n. get_or ring n d) (sym old.1) ∙ number in
+    elim (cases_lt j i) [
+      | inl before ↦ least j at kept before is (ap (slice_get ring) (sym old.1) ∙ kept_is)
+      | inr last ↦
+          let place : get_or ring i d ≡ at = ap (λ n. get_or ring n d) (let end : i ≡ j = omega arith in end) ∙ get_or_from_slice_get ring j at d is in
+          subst (λ (p : Place). AtMost p at) same (subst (AtMost (get_or ring best d)) place (ahead_at_most (get_or ring i d) (get_or ring best d) old.0))
+    ]
 
 -- a list, parted at a place of it
 parted : {X : Type 0} (xs : List X) (k : ℕ) (x : X) → slice_get xs k ≡ Some x → xs ≡ take k xs ++ x ∷ drop (k + 1) xs
@@ -44,7 +70,7 @@ from_back xs k i x is =
     let small : k + i < length xs = (let count = length-drop k xs in let inside = slice_get_within (drop k xs) i x is in omega arith) in
     slice_get-get_or xs (k + i) x small ∙ ap (λ y. Some y) (sym (get_or-drop k xs i x) ∙ get_or_from_slice_get (drop k xs) i x x is)
 
-module _ (rows : List (List Deed)) (done : ℕ → ℕ) (first : Place) (met : List Place) (again : ℕ) (walked : IsWalked rows done first met again) (list : List Place) (turned : IsTurned (drop again met) list) where
+module _ (steps : Place → Place → Type 0) (first : Place) (met : List Place) (again : ℕ) (walked : IsWalked steps first met again) (list : List Place) (turned : IsTurned (drop again met) list) where
   -- the round, as it was walked
   abbrev ring : List Place
   ring = drop again met
@@ -60,10 +86,6 @@ module _ (rows : List (List Deed)) (done : ℕ → ℕ) (first : Place) (met : L
   -- and from there on
   abbrev back : List Place
   back = drop (turned.number + 1) ring
-
-  -- its steps
-  abbrev steps : Place → Place → Type 0
-  steps = IsBackOf rows done
 
   -- the round in its parts
   ring_parts : ring ≡ front ++ turned.begin ∷ back
@@ -127,7 +149,7 @@ module _ (rows : List (List Deed)) (done : ℕ → ℕ) (first : Place) (met : L
       found.2 (let both = walked.once (again + found.0) (again + turned.number) turned.begin (from_back met again found.0 turned.begin found.1) (from_back met again turned.number turned.begin turned.there) in omega arith)
 
   -- the list is the round that the walk leads into
-  pub round_from : IsRoundFrom (IsBackOf rows done) first list
+  pub round_from : IsRoundFrom steps first list
   round_from = record {
     way = before ++ front;
     begin = turned.begin;
@@ -146,3 +168,7 @@ module _ (rows : List (List Deed)) (done : ℕ → ℕ) (first : Place) (met : L
           ∙ (ap (first_or before) (front_begins ∙ sym ring_begins)
           ∙ (sym (first_or-append before ring walked.at)
           ∙ (ap (λ xs. first_or xs walked.at) (take-append-drop again met) ∙ walked.starts)))
+
+-- where steps were followed until a place came a second time, they lead into the round
+pub followed_round : (steps : Place → Place → Type 0) (start : Place) (list : List Place) → IsFollowed steps start list → IsRoundFrom steps start list
+followed_round steps start list is = round_from steps start is.met is.again is.walked list is.turned

@@ -1,8 +1,9 @@
 -- Steps back among the deeds that don't stand.
-use Rattle.std.specs.Prelude.{◌≡◌, ℕ, ◌+◌, ◌<◌, ◌≤◌, ◌⊎◌, ◌==◌, ◌&&◌, ◌||◌, ltb, Bool, if◌then◌else◌, List, ◌∷◌, ◌++◌, Option, Some, None, length, reverse, take, drop, is_some, slice_get}
+use Rattle.std.specs.Prelude.{◌≡◌, ℕ, ◌+◌, ◌<◌, ◌≤◌, ◌⊎◌, ◌==◌, ◌&&◌, ◌||◌, ltb, Bool, if◌then◌else◌, List, Option, Some, None, length, is_some, slice_get}
 use Rattle.interleavings.specs.declared.traces.Place.{Place}
 use Rattle.event_order.specs.Cycles.{AtMost, Leads, first_or}
 use Rattle.event_order.specs.Deeds.{NeedsAt, gives_at, size}
+use Rattle.event_order.specs.Following.{IsOnce}
 use Rattle.event_order.specs.Sums.{upto}
 use Rattle.event_order.specs.declared.deed.Deed.{Deed}
 use Rattle.event_order.specs.declared.slot.Slot.{Slot}
@@ -85,10 +86,6 @@ lesser_of (Some a) (Some b) = if is_behind b a then Some b else Some a
 abbrev pub AllRemain : List (List Deed) → (ℕ → ℕ) → Type 0
 AllRemain rows done = (at : Place) → Remains rows done at → (before : Place) × IsBefore rows done at before
 
--- each of the places is met once
-abbrev pub IsOnce : List Place → Type 0
-IsOnce met = (i j : ℕ) (at : Place) → slice_get met i ≡ Some at → slice_get met j ≡ Some at → i ≡ j
-
 -- the places that steps back met from the first on, where the next is at this place, and their marks
 pub record IsWalk (rows : List (List Deed)) (done : ℕ → ℕ) (first : Place) (met : List Place) (marks : Slot → Option ℕ) (at : Place) : Type 0 where
   pub remains : Remains rows done at
@@ -106,22 +103,6 @@ is_unmarked marks thread i = if is_some (marks (record { row = thread; number = 
 abbrev pub unmarked_count : List (List Deed) → (Slot → Option ℕ) → ℕ
 unmarked_count rows marks = upto (λ thread. upto (is_unmarked marks thread) (size rows thread)) (length rows)
 
--- steps back met these places from the first on, and the step back from the last is to the place with this number
-pub record IsWalked (rows : List (List Deed)) (done : ℕ → ℕ) (first : Place) (met : List Place) (again : ℕ) : Type 0 where
-  pub at : Place
-  pub chain : Leads (IsBackOf rows done) met at
-  pub starts : first_or met at ≡ first
-  pub there : slice_get met again ≡ Some at
-  pub once : IsOnce met
-
 -- of the first places of the ring, so many of them, none is before the one with this number
 abbrev pub IsLeastAt : List Place → ℕ → ℕ → Type 0
 IsLeastAt ring count number = (i : ℕ) (at least : Place) → i < count → slice_get ring i ≡ Some at → slice_get ring number ≡ Some least → AtMost least at
-
--- the list begins with a least place of the ring, and goes on from there backwards and round
-pub record IsTurned (ring : List Place) (list : List Place) : Type 0 where
-  pub number : ℕ
-  pub begin : Place
-  pub there : slice_get ring number ≡ Some begin
-  pub parts : list ≡ begin ∷ (reverse (take number ring) ++ reverse (drop (number + 1) ring))
-  pub least : (i : ℕ) (at : Place) → slice_get ring i ≡ Some at → AtMost begin at

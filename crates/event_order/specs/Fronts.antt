@@ -44,11 +44,6 @@ waiting rows done slot = upto (awaited_of rows done slot) (length rows)
 abbrev pub counted : List (List (Option ℕ)) → Slot → ℕ
 counted table slot = unwrap_or (entry table slot) 0
 
--- the count of one slot is so many more, and that of each other slot is as before
-pub record IsCounted (old : Slot → ℕ) (slot : Slot) (value : ℕ) (new : Slot → ℕ) : Type 0 where
-  pub here : new slot ≡ value
-  pub others : (other : Slot) → same_slot slot other ≡ false → new other ≡ old other
-
 -- the counts and how many deeds of each thread stand agree
 pub record IsFront (rows : List (List Deed)) (counts : Slot → ℕ) (done : List ℕ) : Type 0 where
   pub threads : length done ≡ length rows

@@ -13,9 +13,10 @@ use Rattle.linkage.specs.declared.link_error.LinkError.{LinkError}
 use Rattle.linkage.specs.Links.{IsLinked}
 use Rattle.linkage.specs.Refusals.{IsRefused}
 use Rattle.linkage.specs.Sources.{event_at}
-use Rattle.event_order.specs.Cycles.{IsCycle, IsTheCycle}
+use Rattle.event_order.specs.Cycles.{AtMost, IsCycle, IsLeft, IsTheCycle, StepsBack}
 use Rattle.event_order.specs.DirectOrder.{LinkRows}
 use Rattle.event_order.specs.Extensions.{IsExtension, schedule_of}
+use Rattle.event_order.specs.Following.{IsFollowed}
 use Rattle.event_order.specs.Least.{IsLeast}
 
 -- the events of threads that were run again, with the program's starting values and the number of its monitors
@@ -53,3 +54,8 @@ OneCycle = (traces : TraceLists) (links : LinkRows) (one other : List Place) →
 -- of linked events there is the least schedule, or the cycle that is told
 abbrev pub LeastOrCycle : Type 0
 LeastOrCycle = (traces : TraceLists) (links : LinkRows) → IsLinked traces links → ((schedule : List ℕ) × IsLeast traces links schedule) ⊎ ((cycle : List Place) × IsTheCycle traces links cycle × IsCycle traces links cycle)
+
+-- where steps back are followed from the least event until an event comes a second time, the events between are the cycle that
+-- is told
+abbrev pub FollowedIsTold : Type 0
+FollowedIsTold = (traces : TraceLists) (links : LinkRows) (start : Place) (cycle : List Place) → IsLeft traces links start → ((other : Place) → IsLeft traces links other → AtMost start other) → IsFollowed (StepsBack traces links) start cycle → IsTheCycle traces links cycle

@@ -4,6 +4,7 @@ pub mod Cycles
 pub mod Deeds
 pub mod DirectOrder
 pub mod Extensions
+pub mod Following
 pub mod Fronts
 pub mod Laws
 pub mod Least

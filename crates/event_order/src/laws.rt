@@ -1,6 +1,6 @@
 //! Laws of the direct order, over its definitions alone. Each is the contract of a function that does nothing but cite laws
 //! of the crates below.
-ghost use Rattle.event_order.specs.Laws.{CyclesExclude, ExtensionsAreRuns, LeastOrCycle, OneCycle, OneLeast};
+ghost use Rattle.event_order.specs.Laws.{CyclesExclude, ExtensionsAreRuns, FollowedIsTold, LeastOrCycle, OneCycle, OneLeast};
 
 use interleavings::{exits_end_enters, followed_walks};
 use sc_machine::{replay_along_turns, starts_settle, turn_by_stop};
@@ -35,4 +35,10 @@ pub fn one_cycle()
 /// Linked events have a least schedule, or a cycle that is told.
 pub fn least_or_cycle()
     ensures { LeastOrCycle }
+{}
+
+/// The events between the first and the second time that steps back from the least event meet an event are the cycle that is
+/// told.
+pub fn followed_is_told()
+    ensures { FollowedIsTold }
 {}

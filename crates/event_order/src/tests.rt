@@ -124,11 +124,28 @@ fn exit(turn: u32) -> Event {
     Event::Exit { mon: 0, turn }
 }
 
+// What the row is about, the number of threads, the events of each, and the order.
+type OrderRow<'a> = (&'a str, u32, &'a [(u32, Event)], &'a [u8]);
+
+fn have_orders<R: Threads + Wait + Sync>(
+    rt: &R,
+    alloc: Global,
+    rows: &[OrderRow<'_>],
+) -> Result<(), Fail> {
+    for (name, threads, events, order) in rows {
+        let Ok(found) = arranged(rt, alloc, *threads, events)? else {
+            return Err(*name)?;
+        };
+        if found.as_slice() != *order {
+            return Err(*name)?;
+        }
+    }
+    Ok(())
+}
+
 #[test]
-fn events_come_in_the_least_order(rt: HostRuntime) -> Result<(), Fail> {
-    let rows: [(&str, u32, &[(u32, Event)], &[u8]); 9] = [
-        ("no thread", 0, &[], &[]),
-        ("a thread without events", 3, &[], &[]),
+fn reads_come_where_their_links_allow(rt: HostRuntime) -> Result<(), Fail> {
+    let rows: [OrderRow<'_>; 3] = [
         (
             "a read of the starting value stays before the write",
             2,
@@ -147,8 +164,17 @@ fn events_come_in_the_least_order(rt: HostRuntime) -> Result<(), Fail> {
             &[(0, write(0, 3, 1)), (1, write(0, 3, 2)), (2, read(0, 3, 2))],
             &[0, 1, 2],
         ),
+    ];
+    have_orders(&rt, rt.alloc(), &rows)
+}
+
+#[test]
+fn events_that_nothing_ties_come_thread_by_thread(rt: HostRuntime) -> Result<(), Fail> {
+    let rows: [OrderRow<'_>; 3] = [
+        ("no thread", 0, &[], &[]),
+        ("threads without events", 3, &[], &[]),
         (
-            "events that nothing ties come thread by thread",
+            "events of other cells and monitors",
             3,
             &[
                 (2, write(0, 1, 1)),
@@ -159,8 +185,15 @@ fn events_come_in_the_least_order(rt: HostRuntime) -> Result<(), Fail> {
             ],
             &[0, 1, 1, 2, 2],
         ),
+    ];
+    have_orders(&rt, rt.alloc(), &rows)
+}
+
+#[test]
+fn updates_and_turns_follow_one_another(rt: HostRuntime) -> Result<(), Fail> {
+    let rows: [OrderRow<'_>; 3] = [
         (
-            "updates follow one another, and a read between them",
+            "a read between two updates",
             3,
             &[
                 (0, update(1, 2, 2)),
@@ -194,22 +227,36 @@ fn events_come_in_the_least_order(rt: HostRuntime) -> Result<(), Fail> {
             &[1, 1, 2, 2, 0],
         ),
     ];
-    for (name, threads, events, order) in rows {
-        let Ok(found) = arranged(&rt, rt.alloc(), threads, events)? else {
-            return Err(name)?;
-        };
-        assert_eq!(rt; found.as_slice(), order, "{name}");
-    }
-    Ok(())
+    have_orders(&rt, rt.alloc(), &rows)
 }
 
 fn place(thread: u32, place: u32) -> Place {
     Place { thread, place }
 }
 
+// What the row is about, the number of threads, the events of each, and the cycle.
+type CycleRow<'a> = (&'a str, u32, &'a [(u32, Event)], &'a [Place]);
+
+fn have_cycles<R: Threads + Wait + Sync>(
+    rt: &R,
+    alloc: Global,
+    rows: &[CycleRow<'_>],
+) -> Result<(), Fail> {
+    for (name, threads, events, cycle) in rows {
+        let found = match arranged(rt, alloc, *threads, events)? {
+            Err(OrderError::Cycle { places }) => places,
+            Err(OrderError::NoMemory) | Ok(_) => return Err(*name)?,
+        };
+        if found.as_slice() != *cycle {
+            return Err(*name)?;
+        }
+    }
+    Ok(())
+}
+
 #[test]
-fn events_without_an_order_have_a_cycle(rt: HostRuntime) -> Result<(), Fail> {
-    let rows: [(&str, u32, &[(u32, Event)], &[Place]); 5] = [
+fn a_cycle_begins_at_its_least_event(rt: HostRuntime) -> Result<(), Fail> {
+    let rows: [CycleRow<'_>; 3] = [
         (
             "two threads that read each other's variable before it is written",
             2,
@@ -228,7 +275,20 @@ fn events_without_an_order_have_a_cycle(rt: HostRuntime) -> Result<(), Fail> {
             &[place(1, 0), place(1, 1)],
         ),
         (
-            "a way into a cycle that does not go through its least event",
+            "an update that comes before the write below it",
+            1,
+            &[(0, update(4, 5, 2)), (0, write(0, 4, 1))],
+            &[place(0, 0), place(0, 1)],
+        ),
+    ];
+    have_cycles(&rt, rt.alloc(), &rows)
+}
+
+#[test]
+fn the_cycle_is_that_of_the_least_event(rt: HostRuntime) -> Result<(), Fail> {
+    let rows: [CycleRow<'_>; 2] = [
+        (
+            "the least event leads into a cycle without it",
             3,
             &[
                 (0, read(0, 9, 2)),
@@ -240,7 +300,7 @@ fn events_without_an_order_have_a_cycle(rt: HostRuntime) -> Result<(), Fail> {
             &[place(1, 0), place(1, 1), place(2, 0), place(2, 1)],
         ),
         (
-            "of two cycles the one of the least event",
+            "of two cycles the first",
             3,
             &[
                 (1, read(0, 7, 1)),
@@ -250,20 +310,6 @@ fn events_without_an_order_have_a_cycle(rt: HostRuntime) -> Result<(), Fail> {
             ],
             &[place(1, 0), place(1, 1)],
         ),
-        (
-            "an update that comes before the write below it",
-            1,
-            &[(0, update(4, 5, 2)), (0, write(0, 4, 1))],
-            &[place(0, 0), place(0, 1)],
-        ),
     ];
-    for (name, threads, events, cycle) in rows {
-        match arranged(&rt, rt.alloc(), threads, events)? {
-            Err(OrderError::Cycle { places }) => {
-                assert_eq!(rt; places.as_slice(), cycle, "{name}");
-            }
-            Err(OrderError::NoMemory) | Ok(_) => return Err(name)?,
-        }
-    }
-    Ok(())
+    have_cycles(&rt, rt.alloc(), &rows)
 }

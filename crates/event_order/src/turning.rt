@@ -1,6 +1,7 @@
 //! The cycle among the events that a walk met, from its least event on.
 ghost use Rattle.std.specs.Prelude.{◌≡◌, ◌++◌, ◌<◌, ◌∷◌, [], length, reverse, IfOk, OnOk};
-ghost use Rattle.event_order.specs.Backs.{IsLeastAt, IsTurned, is_behind};
+ghost use Rattle.event_order.specs.Backs.{IsLeastAt, is_behind};
+ghost use Rattle.event_order.specs.Following.{IsTurned};
 
 use interleavings::Place;
 use std::alloc::Global;

@@ -1,6 +1,7 @@
 //! The walk along steps back, until an event is met again.
 ghost use Rattle.std.specs.Prelude.{◌≡◌, length, IfOk};
-ghost use Rattle.event_order.specs.Backs.{AllRemain, AreFirsts, IsWalked, Remains};
+ghost use Rattle.event_order.specs.Backs.{AllRemain, AreFirsts, IsBackOf, Remains};
+ghost use Rattle.event_order.specs.Following.{IsWalked};
 ghost use Rattle.event_order.specs.Fronts.{done_of};
 ghost use Rattle.event_order.specs.Tables.{entry, rows_of};
 
@@ -41,7 +42,7 @@ pub(crate) fn walk_back(
     requires firsts { AreFirsts deeds.now (done_of done.now) (entry (rows_of firsts.now.rows.items)) }
     requires first { Remains deeds.now (done_of done.now) first }
     requires all { AllRemain deeds.now (done_of done.now) }
-    ensures { IfOk result (λ walk. IsWalked deeds.now (done_of done.now) first walk.met.items walk.again) }
+    ensures { IfOk result (λ walk. IsWalked (IsBackOf deeds.now (done_of done.now)) first walk.met.items walk.again) }
 {
     let mut marks = Table::new(alloc);
     let mut met = Vec::new(alloc);

@@ -1,11 +1,17 @@
 pub mod AllOfLists
+pub mod Bounds
+pub mod Deciding
 pub mod EventLinks
 mod Examples
 pub mod Finds
+pub mod FirstRefusals
 pub mod Frontier
 pub mod GapLists
 pub mod GatherSteps
 pub mod Halving
+pub mod KnownRefusals
+pub mod KnownSources
+pub mod LinksOrRefusal
 pub mod Moved
 pub mod NumberChecks
 pub mod NumberedLists
@@ -13,4 +19,5 @@ pub mod Parts
 pub mod Progress
 pub mod RefusalOrder
 pub mod Rows
+pub mod ThereLinks
 pub mod Unique

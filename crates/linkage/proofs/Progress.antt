@@ -217,7 +217,7 @@ module _ (traces : TraceLists) (threads : ℕ) (misfits : Misfits) (all_threads 
   none_refused none second (NoEqualWrite place) refused = absurd (let e = none_below_seven none (NoEqualWrite place) refused in omega arith)
 
   -- where nothing is told, the links are there and nothing is refused
-  pub whole_end : (rows : List (List (Option ℕ))) (unequal mismatch : Option Place) → AreRowsLinked traces threads rows → IsFirstBefore (IsUnequal traces) (place_at threads 0) unequal → IsFirstBefore (IsMismatch traces) (place_at threads 0) mismatch → told_by unequal mismatch ≡ Ok tt → IsWhole traces rows
+  pub whole_end : (rows : List (List (Option ℕ))) (unequal mismatch : Option Place) → AreRowsLinked traces threads rows → IsFirstBefore (IsUnequal traces) (place_at threads 0) unequal → IsFirstBefore (IsMismatch traces) (place_at threads 0) mismatch → Ok tt ≡ told_by unequal mismatch → IsWhole traces rows
   whole_end rows (Some found) mismatch linked first second is = absurd (cc)
   whole_end rows None (Some found) linked first second is = absurd (cc)
   whole_end rows None None linked first second is = record {

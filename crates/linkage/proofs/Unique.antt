@@ -1,13 +1,18 @@
--- Events have one list of links at most.
+-- Events have one list of links, one first refusal and one answer at most.
 use Rattle.std.proofs.Common.{◌≡◌, ◌∙◌, ℕ, ◌⊎◌, inl, inr, List, [], refl, sym, ap, arith}
-use Rattle.std.specs.Prelude.{Option, Some, None}
+use Rattle.std.specs.Prelude.{Option, Some, None, Result, Ok, Err}
 use Rattle.std.specs.Option.{option_and_then}
+use Rattle.std.proofs.lemmas.Grind.{common_steps}
 use Rattle.std.proofs.lemmas.List.{ext_get_or}
 use Rattle.interleavings.specs.declared.event.Event.{Event}
 use Rattle.interleavings.specs.declared.event.Event.TheVariants.{Read, Write, Update, Enter, Exit}
 use Rattle.interleavings.specs.declared.traces.Place.{Place}
 use Rattle.interleavings.specs.Events.{bound_of, read_of}
 use Rattle.interleavings.specs.TraceLists.{TraceLists}
+use Rattle.linkage.specs.declared.link_error.LinkError.{LinkError}
+use Rattle.linkage.specs.declared.link_error.LinkError.TheVariants.{TwiceWritten, WriteGap, TwiceTurned, TurnGap, BoundTooLarge, NoEqualWrite, UpdateMismatch, NoMemory}
+use Rattle.linkage.specs.Answers.{IsAnswer, IsTold}
+use Rattle.linkage.specs.Refusals.{IsFirstRefusal}
 use Rattle.linkage.specs.Sources.{event_at, IsReadAt}
 use Rattle.linkage.specs.Links.{IsLink, IsLinked, link_at, links_of}
 
@@ -39,3 +44,24 @@ pub same_links : (traces : TraceLists) (one other : List (List (Option ℕ))) �
 same_links traces one other a b =
     ext_get_or [] one other (a.threads ∙ sym b.threads) (λ t below.
     ext_get_or None (links_of one t) (links_of other t) (a.counts t ∙ sym (b.counts t)) (λ i inside. same_link traces one other a b (record { thread = t; place = i })))
+
+same_refusal : (traces : TraceLists) (one other : LinkError) → IsFirstRefusal traces one → IsFirstRefusal traces other → one ≡ other
+same_refusal traces one other a b = grind (arith, common_steps)
+
+-- what is told is the first refusal, unless memory ran out
+told_refused : (traces : TraceLists) (refusal : LinkError) → IsTold traces refusal → (refusal ≡ NoMemory → ⊥) → IsFirstRefusal traces refusal
+told_refused traces NoMemory told ample = absurd (ample refl)
+told_refused traces (TwiceWritten cell number) told ample = told
+told_refused traces (WriteGap cell number) told ample = told
+told_refused traces (TwiceTurned monitor turn) told ample = told
+told_refused traces (TurnGap monitor turn) told ample = told
+told_refused traces (BoundTooLarge place) told ample = told
+told_refused traces (NoEqualWrite place) told ample = told
+told_refused traces (UpdateMismatch place) told ample = told
+
+pub same_answer : (traces : TraceLists) (one other : Result (List (List (Option ℕ))) LinkError) → IsAnswer traces one → IsAnswer traces other → (one ≡ Err NoMemory → ⊥) → (other ≡ Err NoMemory → ⊥) → one ≡ other
+same_answer traces (Ok links) (Ok others) a b ample ample' = ap Ok (same_links traces links others a.linked b.linked)
+same_answer traces (Ok links) (Err refusal) a b ample ample' = absurd (a.unrefused refusal (told_refused traces refusal b (λ e. ample' (ap Err e))).refused)
+same_answer traces (Err refusal) (Ok links) a b ample ample' = absurd (b.unrefused refusal (told_refused traces refusal a (λ e. ample (ap Err e))).refused)
+same_answer traces (Err refusal) (Err others) a b ample ample' =
+    ap Err (same_refusal traces refusal others (told_refused traces refusal a (λ e. ample (ap Err e))) (told_refused traces others b (λ e. ample' (ap Err e))))

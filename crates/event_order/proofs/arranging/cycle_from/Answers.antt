@@ -3,7 +3,8 @@ use Rattle.std.proofs.lemmas.List.{take_rest}
 use Rattle.std.proofs.lemmas.Result.{IfOk-weaker}
 use Rattle.stride_base.specs.Listed.{Listed}
 use Rattle.interleavings.specs.declared.traces.Place.{Place}
-use Rattle.event_order.specs.Backs.{IsTurned}
+use Rattle.event_order.specs.Backs.{IsBackOf}
+use Rattle.event_order.specs.Following.{IsTurned}
 use Rattle.event_order.specs.Fronts.{done_of}
 use Rattle.event_order.proofs.Rounds.{round_from}
 use Rattle.event_order.proofs.arranging.cycle_from.Goals as goal
@@ -15,5 +16,5 @@ returns c =
     let ring = take_rest c.deref.result.now again ∙ ap (drop again) c.deref.ensures.value in
     let P : Listed Place → List Place → Type 0 = λ cycle xs. IsTurned xs cycle.items in
     IfOk-weaker c.turned.result _ _
-    (λ cycle turned. round_from c.args.deeds.now (done_of c.args.done.now) c.args.first met again c.in_ok-walk.ensures cycle.items (subst (P cycle) ring turned))
+    (λ cycle turned. round_from (IsBackOf c.args.deeds.now (done_of c.args.done.now)) c.args.first met again c.in_ok-walk.ensures cycle.items (subst (P cycle) ring turned))
     c.turned.ensures

@@ -1,4 +1,4 @@
-use Rattle.std.proofs.Common.{◌≡◌, sym, map, length, [], arith}
+use Rattle.std.proofs.Common.{◌≡◌, map, length, [], arith}
 use Rattle.std.proofs.lemmas.List.{map-append}
 use Rattle.std.proofs.lemmas.List.Sums.{sum_by_more, sum_by_more_le}
 use Rattle.linkage.proofs.Progress.{rows_step, whole_end}
@@ -33,4 +33,4 @@ returns-clause-answer g c =
     let t = c.loop-thread.thread in
     let all : t ≡ length traces.events = omega (arith, c.loop-thread-test.false, c.threads-thread-end.ensures.count) in
     let progress = c.loop-thread.invariant.progress in
-    whole_end traces t c.loop-thread.misfits all progress c.requires.numbers (map (λ row. row.items) c.loop-thread.rows.items) c.loop-thread.misfits.unequal c.loop-thread.misfits.mismatch c.loop-thread.invariant.rows progress.unequal progress.mismatch (sym c.in_ok-told.ensures)
+    whole_end traces t c.loop-thread.misfits all progress c.requires.numbers (map (λ row. row.items) c.loop-thread.rows.items) c.loop-thread.misfits.unequal c.loop-thread.misfits.mismatch c.loop-thread.invariant.rows progress.unequal progress.mismatch c.in_ok-told.ensures
