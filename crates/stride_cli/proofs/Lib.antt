@@ -8,3 +8,4 @@ pub mod Lines
 pub mod OneAnswer
 pub mod Ranges
 pub mod Replayed
+pub mod ReplaysAreRuns

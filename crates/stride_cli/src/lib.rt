@@ -19,6 +19,6 @@ mod settings;
 mod status;
 mod words;
 
-pub use laws::{an_answer, one_answer};
+pub use laws::{an_answer, one_answer, replays_are_runs};
 pub use offline_call::offline;
 pub use status::{LinkageFault, MemberFault, ProgramFault, Status};
