@@ -1,14 +1,12 @@
 -- A program, a fuel and logs come to one thing at most.
-use Rattle.std.proofs.Common.{◌≡◌, ◌∙◌, ℕ, List, [], ◌∷◌, Result, Ok, Err, refl, sym, ap, subst}
+use Rattle.std.proofs.Common.{◌≡◌, ◌∙◌, ℕ, List, [], ◌∷◌, Result, Ok, Err, sym, ap, subst}
 use Rattle.stride_isa.specs.Listing.{Listing}
 use Rattle.interleavings.specs.declared.traces.Place.{Place}
 use Rattle.interleavings.specs.Following.{Divergence, Followed}
 use Rattle.interleavings.specs.TraceLists.{TraceLists}
 use Rattle.linkage.specs.Answers.{IsWhole}
 use Rattle.linkage.specs.Laws.{OneFirstRefusal, OneLinking}
-use Rattle.linkage.specs.Refusals.{IsFirstRefusal}
-use Rattle.linkage.specs.declared.link_error.LinkError.{LinkError}
-use Rattle.event_order.specs.Cycles.{IsCycle, IsRing, IsTheCycle, Leads, Precedes, StepsBack, first_or}
+use Rattle.event_order.specs.Cycles.{IsCycle, IsRing, IsTheCycle, Leads, Precedes, StepsBack}
 use Rattle.event_order.specs.DirectOrder.{LinkRows}
 use Rattle.event_order.specs.Laws.{CyclesExclude, OneCycle, OneLeast, traces_of}
 use Rattle.event_order.specs.Least.{IsLeast}

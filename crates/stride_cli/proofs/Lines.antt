@@ -1,11 +1,11 @@
 -- Lines of links, one after another.
-use Rattle.std.proofs.Common.{append-nil, decimal, ◌≡◌, ◌∙◌, ◌+◌, ◌<◌, ℕ, List, [], ◌∷◌, ◌++◌, Option, Some, None, refl, sym, ap, length, drop, get_or, add-one, append_assoc, drop-cons, arith}
+use Rattle.std.proofs.Common.{append-nil, decimal, ◌≡◌, ◌∙◌, ◌+◌, ◌<◌, ℕ, List, [], ◌∷◌, ◌++◌, Option, Some, None, refl, sym, ap, length, drop, get_or, add-one, append_assoc, drop-cons}
 use Rattle.stride_cli.specs.Reports.{link_lines, links_lines}
 
 -- the lines of the links from one on are its line, if it has one, before those of the others
 link_line : (thread place : ℕ) (link : Option ℕ) (rest : List (Option ℕ)) → link_lines thread place (link ∷ rest) ≡ link_lines thread place (link ∷ []) ++ link_lines thread (place + 1) rest
 link_line thread place None rest = refl
-link_line thread place (Some number) rest = 
+link_line thread place (Some number) rest =
     let line : List ℕ = decimal thread ++ (32 ∷ (decimal place ++ (32 ∷ (decimal number ++ 10 ∷ [])))) in
     ap (λ (xs : List ℕ). xs ++ link_lines thread (place + 1) rest) (sym (append-nil line))
 

@@ -1,14 +1,13 @@
 -- The answer of `replay` to a bundle whose events have an order.
-use Rattle.std.proofs.Common.{◌≡◌, ◌∙◌, ◌≤◌, ◌*◌, ◌++◌, ℕ, List, Some, None, Err, refl, sym, ap, subst, arith, false, length, map}
+use Rattle.std.proofs.Common.{◌≡◌, ◌∙◌, ◌≤◌, ◌*◌, ◌++◌, ℕ, List, Some, Err, sym, ap, subst, arith, false, length}
 use Rattle.std.proofs.lemmas.List.{length-map}
 use Rattle.stride_isa.specs.Limits.{fuel_limit, thread_limit}
 use Rattle.stride_isa.specs.Listing.{Listing}
-use Rattle.sc_machine.specs.Machine.{Machine}
 use Rattle.sc_machine.specs.Schedule.{replayed}
 use Rattle.interleavings.specs.declared.traces.Place.{Place}
 use Rattle.interleavings.specs.TraceLists.{IsTraces, TraceLists}
 use Rattle.event_order.specs.Laws.{ExtensionsAreRuns, IsRunOf, traces_of}
-use Rattle.replayer.specs.Replays.{IsAnswer, IsRefusedAt, IsRunOf as Plays, Results, results_of}
+use Rattle.replayer.specs.Replays.{IsAnswer, IsRunOf as Plays, Results}
 use Rattle.replayer.specs.declared.replay_error.ReplayError.{ReplayError}
 use Rattle.replayer.specs.declared.replay_error.ReplayError.TheVariants as replays
 use Rattle.stride_cli.specs.declared.words.Command.TheVariants.{Replay}

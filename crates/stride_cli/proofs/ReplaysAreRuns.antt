@@ -1,5 +1,5 @@
 -- What `replay` is done with is a run.
-use Rattle.std.proofs.Common.{◌≡◌, ◌∙◌, ℕ, Bool, true, false, List, [], Option, Some, None, Result, Ok, Err, refl, ap, subst, length, nat_lt}
+use Rattle.std.proofs.Common.{◌≡◌, ℕ, Bool, true, false, List, Option, Some, None, Result, Ok, Err, refl, ap, subst, length, nat_lt}
 use Rattle.std.specs.Bool.{MatchBool}
 use Rattle.stride_base.specs.declared.limits.TheConstants.{INPUT_LIMIT}
 use Rattle.stride_isa.specs.Faults.{Fault, IsVerdict}
@@ -15,10 +15,9 @@ use Rattle.stride_cli.specs.declared.words.Command.TheVariants.{Replay}
 use Rattle.linkage.specs.declared.link_error.LinkError.{LinkError}
 use Rattle.linkage.specs.declared.link_error.LinkError.TheVariants as links
 use Rattle.stride_cli.specs.Answers.{Answer, AnswersBundle, AnswersBy, AnswersInference, AnswersInput, AnswersLogs, AnswersProgram, AnswersRun, AnswersVerdict, circular, done, refused, unlinked}
-use Rattle.stride_cli.specs.Inferring.{Circular, Diverging, Inference, Inferred, Ordered, Unlinked}
+use Rattle.stride_cli.specs.Inferring.{Circular, Diverging, Inference, Ordered, Unlinked}
 use Rattle.stride_cli.specs.Laws.{IsReplayed, ReplaysAreRuns}
 use Rattle.stride_cli.specs.Reports.{replay_report}
-use Rattle.stride_cli.specs.Words.{command_named}
 
 -- a refusal is not done
 not_done : (status : Status) (report : List ℕ) → (status ≡ Done → ⊥) → done report ≡ refused status → ⊥

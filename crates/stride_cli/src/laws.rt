@@ -26,5 +26,4 @@ pub fn one_answer()
 /// the events of its log, with its output and its end.
 pub fn replays_are_runs()
     ensures { ReplaysAreRuns }
-{
-}
+{}

@@ -128,12 +128,7 @@ fn write_cycle<W: fmt::Write>(f: &mut fmt::Formatter<W>, places: &[Place]) -> fm
         "the events have no order: of these, by thread and event, both counted from 0, each has to come before the next and the last before the first:"
     )?;
     for at in places {
-        write!(
-            f,
-            " {thread}:{place}",
-            thread = at.thread,
-            place = at.place
-        )?;
+        write!(f, " {thread}:{place}", thread = at.thread, place = at.place)?;
     }
     Ok(())
 }

@@ -104,7 +104,10 @@ impl Status {
             Status::TooLong => 3,
             Status::Program { fault: _ } => 4,
             Status::Bundle { kind: _, offset: _ } => 5,
-            Status::Diverges { thread: _, place: _ } => 6,
+            Status::Diverges {
+                thread: _,
+                place: _,
+            } => 6,
             Status::NoLinkage { fault: _ } => 7,
             Status::NotEnabled { place: _, fault: _ } => 8,
             Status::WriteFault => 9,

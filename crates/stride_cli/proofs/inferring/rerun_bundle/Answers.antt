@@ -1,10 +1,9 @@
-use Rattle.std.proofs.Common.{◌≡◌, Result, Ok, Err, refl, subst}
+use Rattle.std.proofs.Common.{refl}
 use Rattle.std.proofs.lemmas.Result.{err_from_is_err_and}
 use Rattle.interleavings.specs.Following.{follow_all}
 use Rattle.log_format.specs.Bundles.{bundled, lists_of}
 use Rattle.thread_rerun.specs.Rerunning.{rerun_seen}
 use Rattle.stride_cli.specs.Answers.{AnswersLinks, AnswersRun}
-use Rattle.stride_cli.specs.Gives.{Refuses}
 use Rattle.stride_cli.specs.declared.words.Command.TheVariants.{Infer, Replay}
 use Rattle.stride_cli.proofs.Bundles.{lent_refused, again_ok, rerun_refused}
 use Rattle.stride_cli.proofs.inferring.rerun_bundle.Goals as goal

@@ -1,5 +1,5 @@
 use Rattle.std.proofs.Common.{◌+◌, [], arith, drop, get_or, length}
-use Rattle.std.proofs.lemmas.List.Sums.{sum_by_more, sum_by_more_le}
+use Rattle.std.proofs.lemmas.List.Sums.{sum_by_more}
 use Rattle.stride_cli.specs.Reports.{link_lines, links_lines}
 use Rattle.stride_cli.proofs.Lines.{links_lines-next, one_line}
 use Rattle.stride_cli.proofs.reports.links.put_links.Goals as goal
