@@ -35,6 +35,8 @@ fn followed_by<L: Ledger, R: Threads + Wait + Sync>(
         | Status::TooLong
         | Status::Program { .. }
         | Status::Bundle { .. }
+        | Status::Diverges { .. }
+        | Status::NoLinkage { .. }
         | Status::WriteFault
         | Status::NoMemory => Err("neither a report nor a refused place")?,
     }

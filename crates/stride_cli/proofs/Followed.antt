@@ -1,5 +1,5 @@
 -- The report of a schedule that was played to its end.
-use Rattle.std.proofs.Common.{◌≡◌, ℕ, ◌∙◌, ◌++◌, List, length, sym, ap, subst, slice_index, Some, None, Result, Err, unwrap_or}
+use Rattle.std.proofs.Common.{◌≡◌, ℕ, ◌∙◌, ◌++◌, List, length, sym, ap, subst, slice_index, None, Result, Err, unwrap_or}
 use Rattle.std.specs.Prelude.{codes}
 use Rattle.stride_isa.specs.Listing.{Listing}
 use Rattle.sc_machine.specs.Schedule.{refused_place}

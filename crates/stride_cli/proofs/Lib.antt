@@ -1,4 +1,11 @@
 pub mod Accepted
 pub mod AnAnswer
+pub mod Bundles
+pub mod Events
 pub mod Followed
+pub mod Inferences
+pub mod Lines
 pub mod OneAnswer
+pub mod Ranges
+pub mod Replayed
+pub mod ReplaysAreRuns

@@ -1,36 +1,88 @@
 -- Words and bytes have one answer at most.
-use Rattle.std.proofs.Common.{◌≡◌, ◌∙◌, ℕ, Bool, true, false, List, Option, Some, None, Result, Ok, Err, sym, ap, length, nat_lt}
+use Rattle.std.proofs.Common.{◌≡◌, ◌∙◌, ℕ, Bool, true, false, List, Option, Some, None, Result, Ok, Err, sym, ap, subst, length, nat_lt}
 use Rattle.std.specs.Bool.{MatchBool}
 use Rattle.stride_base.specs.declared.limits.TheConstants.{INPUT_LIMIT}
+use Rattle.stride_isa.specs.Faults.{Fault}
 use Rattle.stride_isa.specs.Laws.{OneVerdict}
 use Rattle.stride_isa.specs.Listing.{Listing}
+use Rattle.sc_machine.specs.Machine.{Machine}
+use Rattle.interleavings.specs.Following.{follow_all}
+use Rattle.log_format.specs.Bundles.{Bundled}
+use Rattle.log_format.specs.Reading.{reading, Refusal as FormatRefusal}
 use Rattle.assembler.specs.Programs.{LineFault, spelled}
 use Rattle.stride_cli.specs.declared.words.Command.{Command}
-use Rattle.stride_cli.specs.declared.words.Command.TheVariants.{Check, Follow, Sim, Show, Upgrade}
-use Rattle.stride_cli.specs.Answers.{Answer, AnswersSpelled, AnswersInput, AnswersBy, judged, program_part}
+use Rattle.stride_cli.specs.declared.words.Command.TheVariants.{Check, Follow, Infer, Replay, Show, Sim, Upgrade}
+use Rattle.stride_cli.specs.Answers.{Answer, AnswersBundle, AnswersBy, AnswersInference, AnswersInput, AnswersLinks, AnswersLogs, AnswersProgram, AnswersRun, AnswersSpelled, AnswersVerdict, done, judged, program_part}
+use Rattle.stride_cli.specs.Inferring.{Circular, Diverging, Inference, Inferred, Ordered, Unlinked}
 use Rattle.stride_cli.specs.Laws.{OneAnswer}
+use Rattle.stride_cli.specs.Reports.{replay_report}
 use Rattle.stride_cli.specs.Words.{command_named}
+use Rattle.stride_cli.proofs.Inferences.{Laws, one_inference}
 
 one_text : OneVerdict → (text : List ℕ) (s : Result Listing LineFault) (accepted : Listing → Answer) (answer other : Answer) → AnswersSpelled text s accepted answer → AnswersSpelled text s accepted other → answer ≡ other
 one_text one text (Err fault) accepted answer other is same = is ∙ sym same
 one_text one text (Ok p) accepted answer other is same =
     is.1.1 ∙ ap (λ verdict. judged text verdict (accepted p)) (one p is.0 same.0 is.1.0 same.1.0) ∙ sym same.1.1
 
-one_input : OneVerdict → (command : Command) (bytes : List ℕ) (answer other : Answer) → AnswersInput command bytes answer → AnswersInput command bytes other → answer ≡ other
-one_input one Check bytes answer other is same = one_text one bytes (spelled bytes) _ answer other is same
-one_input one Follow bytes answer other is same = one_text one (program_part bytes) (spelled (program_part bytes)) _ answer other is same
-one_input one Sim bytes answer other is same = one_text one (program_part bytes) (spelled (program_part bytes)) _ answer other is same
-one_input one Show bytes answer other is same = is ∙ sym same
-one_input one Upgrade bytes answer other is same = is ∙ sym same
+some_same : {X : Type 0} {x y : X} → Some x ≡ Some y → x ≡ y
+some_same e = cc
 
-by_length : OneVerdict → (too_long : Bool) (command : Command) (bytes : List ℕ) (refusal answer other : Answer) → MatchBool too_long (answer ≡ refusal) (AnswersInput command bytes answer) → MatchBool too_long (other ≡ refusal) (AnswersInput command bytes other) → answer ≡ other
-by_length one true command bytes refusal answer other is same = is ∙ sym same
-by_length one false command bytes refusal answer other is same = one_input one command bytes answer other is same
+-- the reports of two runs by one schedule are the same
+one_run : (p : Listing) (bundle : Bundled) (inferred : Inferred) (answer other : Answer) → AnswersRun p bundle inferred answer → AnswersRun p bundle inferred other → answer ≡ other
+one_run p bundle inferred answer other is same =
+    let machines : is.run.machine ≡ same.run.machine = some_same (sym is.run.runs ∙ same.run.runs) in
+    is.shows ∙ ap (λ (m : Machine). done (replay_report inferred.schedule m)) machines ∙ sym same.shows
 
-by_command : OneVerdict → (named : Option Command) (bytes : List ℕ) (answer other : Answer) → AnswersBy named bytes answer → AnswersBy named bytes other → answer ≡ other
-by_command one None bytes answer other is same = is ∙ sym same
-by_command one (Some command) bytes answer other is same =
-    by_length one (nat_lt INPUT_LIMIT (length bytes)) command bytes _ answer other is same
+module _ (laws : Laws) (one : OneVerdict) (Shows : Listing → Bundled → Inferred → Answer → Type 0) (alone : (p : Listing) (bundle : Bundled) (inferred : Inferred) (answer other : Answer) → Shows p bundle inferred answer → Shows p bundle inferred other → answer ≡ other) where
+  -- one thing is answered at most by what logs come to
+  by_inference : (p : Listing) (bundle : Bundled) (inference : Inference) (answer other : Answer) → AnswersInference (Shows p bundle) inference answer → AnswersInference (Shows p bundle) inference other → answer ≡ other
+  by_inference p bundle (Diverging divergence) answer other is same = is ∙ sym same
+  by_inference p bundle (Unlinked refusal) answer other is same = is ∙ sym same
+  by_inference p bundle (Circular cycle) answer other is same = is ∙ sym same
+  by_inference p bundle (Ordered inferred) answer other is same = alone p bundle inferred answer other is same
 
-pub one_answer : OneVerdict → OneAnswer
-one_answer one = λ words bytes answer other is same. by_command one (command_named words) bytes answer other is same
+  -- and to the logs of a bundle
+  by_logs : (bundle : Bundled) (p : Listing) (answer other : Answer) → AnswersLogs Shows bundle p answer → AnswersLogs Shows bundle p other → answer ≡ other
+  by_logs bundle p answer other is same =
+      let P : Inference → Type 0 = λ inference. AnswersInference (Shows p bundle) inference answer in
+      let e = one_inference laws p (follow_all p bundle.fuel bundle.logs) is.0 same.0 is.1.0 same.1.0 in
+      by_inference p bundle same.0 answer other (subst P e is.1.1) same.1.1
+
+  -- and by the verdict on its program
+  by_verdict : (bundle : Bundled) (p : Listing) (verdict : Option Fault) (answer other : Answer) → AnswersVerdict bundle.text verdict (AnswersLogs Shows bundle p) answer → AnswersVerdict bundle.text verdict (AnswersLogs Shows bundle p) other → answer ≡ other
+  by_verdict bundle p (Some fault) answer other is same = is ∙ sym same
+  by_verdict bundle p None answer other is same = by_logs bundle p answer other is same
+
+  -- and by what its text spells
+  by_program : (bundle : Bundled) (s : Result Listing LineFault) (answer other : Answer) → AnswersProgram bundle.text s (AnswersLogs Shows bundle) answer → AnswersProgram bundle.text s (AnswersLogs Shows bundle) other → answer ≡ other
+  by_program bundle (Err fault) answer other is same = is ∙ sym same
+  by_program bundle (Ok p) answer other is same =
+      let P : Option Fault → Type 0 = λ verdict. AnswersVerdict bundle.text verdict (AnswersLogs Shows bundle p) answer in
+      by_verdict bundle p same.0 answer other (subst P (one p is.0 same.0 is.1.0 same.1.0) is.1.1) same.1.1
+
+  -- and by what bytes read as
+  by_reading : (r : Result Bundled FormatRefusal) (answer other : Answer) → AnswersBundle Shows r answer → AnswersBundle Shows r other → answer ≡ other
+  by_reading (Err refusal) answer other is same = is ∙ sym same
+  by_reading (Ok bundle) answer other is same = by_program bundle (spelled bundle.text) answer other is same
+
+one_input : Laws → OneVerdict → (command : Command) (bytes : List ℕ) (answer other : Answer) → AnswersInput command bytes answer → AnswersInput command bytes other → answer ≡ other
+one_input laws one Check bytes answer other is same = one_text one bytes (spelled bytes) _ answer other is same
+one_input laws one Follow bytes answer other is same = one_text one (program_part bytes) (spelled (program_part bytes)) _ answer other is same
+one_input laws one Sim bytes answer other is same = one_text one (program_part bytes) (spelled (program_part bytes)) _ answer other is same
+one_input laws one Show bytes answer other is same = is ∙ sym same
+one_input laws one Upgrade bytes answer other is same = is ∙ sym same
+one_input laws one Infer bytes answer other is same =
+    by_reading laws one AnswersLinks (λ p bundle inferred answer other is same. is ∙ sym same) (reading bytes) answer other is same
+one_input laws one Replay bytes answer other is same = by_reading laws one AnswersRun one_run (reading bytes) answer other is same
+
+by_length : Laws → OneVerdict → (too_long : Bool) (command : Command) (bytes : List ℕ) (refusal answer other : Answer) → MatchBool too_long (answer ≡ refusal) (AnswersInput command bytes answer) → MatchBool too_long (other ≡ refusal) (AnswersInput command bytes other) → answer ≡ other
+by_length laws one true command bytes refusal answer other is same = is ∙ sym same
+by_length laws one false command bytes refusal answer other is same = one_input laws one command bytes answer other is same
+
+by_command : Laws → OneVerdict → (named : Option Command) (bytes : List ℕ) (answer other : Answer) → AnswersBy named bytes answer → AnswersBy named bytes other → answer ≡ other
+by_command laws one None bytes answer other is same = is ∙ sym same
+by_command laws one (Some command) bytes answer other is same =
+    by_length laws one (nat_lt INPUT_LIMIT (length bytes)) command bytes _ answer other is same
+
+pub one_answer : Laws → OneVerdict → OneAnswer
+one_answer laws one = λ words bytes answer other is same. by_command laws one (command_named words) bytes answer other is same

@@ -5,6 +5,8 @@ use Rattle.stride_isa.specs.Faults.{Fault, IsVerdict}
 use Rattle.stride_isa.specs.Listing.{Listing}
 use Rattle.sc_machine.specs.Machine.{Machine}
 use Rattle.sc_machine.specs.Schedule.{refused_place, replayed}
+use Rattle.interleavings.specs.declared.traces.Place.{Place}
+use Rattle.interleavings.specs.Following.{Followed, follow_all}
 use Rattle.interleavings.specs.Driving.{driven, stranger}
 use Rattle.interleavings.specs.Recording.{Recording, Setting}
 use Rattle.log_format.specs.Bundles.{Bundled}
@@ -17,14 +19,19 @@ use Rattle.assembler.specs.CodeLines.{code_line}
 use Rattle.assembler.specs.Orders.{order_spelled}
 use Rattle.assembler.specs.Programs.{LineFault, spelled}
 use Rattle.assembler.specs.Splits.{split}
+use Rattle.linkage.specs.declared.link_error.LinkError.{LinkError}
+use Rattle.linkage.specs.declared.link_error.LinkError.TheVariants as links
+use Rattle.event_order.specs.Laws.{IsRunOf}
 use Rattle.stride_cli.specs.declared.words.Command.{Command}
-use Rattle.stride_cli.specs.declared.words.Command.TheVariants.{Check, Follow, Sim, Show, Upgrade}
+use Rattle.stride_cli.specs.declared.words.Command.TheVariants.{Check, Follow, Infer, Replay, Show, Sim, Upgrade}
+use Rattle.stride_cli.specs.declared.status.LinkageFault.TheVariants as faults
 use Rattle.stride_cli.specs.declared.status.MemberFault.{MemberFault}
 use Rattle.stride_cli.specs.declared.status.MemberFault.TheVariants.{NoThread, CannotGoOn}
 use Rattle.stride_cli.specs.declared.status.Status.{Status}
-use Rattle.stride_cli.specs.declared.status.Status.TheVariants.{Done, Usage, TooLong, Program, Bundle, NotEnabled}
+use Rattle.stride_cli.specs.declared.status.Status.TheVariants.{Done, Usage, TooLong, Program, Bundle, Diverges, NoLinkage, NoMemory, NotEnabled}
 use Rattle.stride_cli.specs.declared.status.ProgramFault.TheVariants.{Text, Code}
-use Rattle.stride_cli.specs.Reports.{follow_report, logs_section, show_report}
+use Rattle.stride_cli.specs.Inferring.{Inference, Unlinked, Circular, Diverging, Ordered, Inferred, IsInferred}
+use Rattle.stride_cli.specs.Reports.{follow_report, infer_report, logs_section, replay_report, show_report}
 use Rattle.stride_cli.specs.Settings.{fuel, patience}
 use Rattle.stride_cli.specs.Words.{command_named}
 
@@ -123,6 +130,59 @@ abbrev pub upgraded : Result Bundled FormatRefusal → Answer
 upgraded (Ok bundle) = done (spelling Two bundle)
 upgraded (Err refusal) = refused (Bundle refusal.kind refusal.offset)
 
+-- the status of a refusal of links; want of memory is none of them
+abbrev pub unlinked : LinkError → Status
+unlinked (links.TwiceWritten cell number) = NoLinkage (faults.TwiceWritten cell number)
+unlinked (links.WriteGap cell number) = NoLinkage (faults.WriteGap cell number)
+unlinked (links.TwiceTurned monitor turn) = NoLinkage (faults.TwiceTurned monitor turn)
+unlinked (links.TurnGap monitor turn) = NoLinkage (faults.TurnGap monitor turn)
+unlinked (links.BoundTooLarge at) = NoLinkage (faults.BoundTooLarge at)
+unlinked (links.NoEqualWrite at) = NoLinkage (faults.NoEqualWrite at)
+unlinked (links.UpdateMismatch at) = NoLinkage (faults.UpdateMismatch at)
+unlinked links.NoMemory = NoMemory
+
+-- the status of a cycle, whose list has no room to spare
+abbrev pub circular : List Place → Status
+circular places = NoLinkage (faults.Cycle (record { items = places; spare = 0 }))
+
+-- what `infer` answers to links with a schedule
+abbrev pub AnswersLinks : Listing → Bundled → Inferred → Answer → Type 0
+AnswersLinks p bundle inferred answer = answer ≡ done (infer_report inferred.links inferred.schedule)
+
+-- what `replay` answers to them: the report of the run by the schedule, in which each thread makes exactly the events that
+-- following its log gives, and prints and ends as following left it
+pub record AnswersRun (p : Listing) (bundle : Bundled) (inferred : Inferred) (answer : Answer) : Type 0 where
+  pub all : List Followed
+  pub follows : follow_all p bundle.fuel bundle.logs ≡ Ok all
+  pub run : IsRunOf p bundle.fuel all inferred.schedule
+  pub shows : answer ≡ done (replay_report inferred.schedule run.machine)
+
+-- the answer by what logs come to, where this is what is answered to links with a schedule
+abbrev pub AnswersInference : (Inferred → Answer → Type 0) → Inference → Answer → Type 0
+AnswersInference Shows (Diverging divergence) answer = answer ≡ refused (Diverges divergence.thread divergence.place)
+AnswersInference Shows (Unlinked refusal) answer = answer ≡ refused (unlinked refusal)
+AnswersInference Shows (Circular cycle) answer = answer ≡ refused (circular cycle)
+AnswersInference Shows (Ordered inferred) answer = Shows inferred answer
+
+-- the answer to the logs of a bundle with a valid program
+abbrev pub AnswersLogs : (Listing → Bundled → Inferred → Answer → Type 0) → Bundled → Listing → Answer → Type 0
+AnswersLogs Shows bundle p answer = (inference : Inference) × (IsInferred p bundle.fuel bundle.logs inference × AnswersInference (Shows p bundle) inference answer)
+
+-- the answer by the verdict on the program that a text spells, where this is what is answered to a valid one
+abbrev pub AnswersVerdict : List ℕ → Option Fault → (Answer → Type 0) → Answer → Type 0
+AnswersVerdict text (Some fault) Accepted answer = answer ≡ refused_code text fault
+AnswersVerdict text None Accepted answer = Accepted answer
+
+-- the answer to a text that spells this program, or this first fault, where this is what is answered to a valid program
+abbrev pub AnswersProgram : List ℕ → Result Listing LineFault → (Listing → Answer → Type 0) → Answer → Type 0
+AnswersProgram text (Err fault) Accepted answer = answer ≡ refused_text fault
+AnswersProgram text (Ok p) Accepted answer = (verdict : Option Fault) × (IsVerdict p verdict × AnswersVerdict text verdict (Accepted p) answer)
+
+-- the answer to what bytes read as, where this is what is answered to links with a schedule
+abbrev pub AnswersBundle : (Listing → Bundled → Inferred → Answer → Type 0) → Result Bundled FormatRefusal → Answer → Type 0
+AnswersBundle Shows (Err refusal) answer = answer ≡ refused (Bundle refusal.kind refusal.offset)
+AnswersBundle Shows (Ok bundle) answer = AnswersProgram bundle.text (spelled bundle.text) (AnswersLogs Shows bundle) answer
+
 -- the answer of a command to an input within the limit
 abbrev pub AnswersInput : Command → List ℕ → Answer → Type 0
 AnswersInput Check bytes answer = AnswersText bytes (λ p. done (canonical p)) answer
@@ -130,6 +190,8 @@ AnswersInput Follow bytes answer = AnswersText (program_part bytes) (λ p. with_
 AnswersInput Sim bytes answer = AnswersText (program_part bytes) (λ p. with_order (simulated p) (order_of bytes)) answer
 AnswersInput Show bytes answer = answer ≡ shown (reading bytes)
 AnswersInput Upgrade bytes answer = answer ≡ upgraded (reading bytes)
+AnswersInput Infer bytes answer = AnswersBundle AnswersLinks (reading bytes) answer
+AnswersInput Replay bytes answer = AnswersBundle AnswersRun (reading bytes) answer
 
 -- the answer of the command that the words name, if they name one, to an input of any length
 abbrev pub AnswersBy : Option Command → List ℕ → Answer → Type 0

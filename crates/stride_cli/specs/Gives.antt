@@ -4,12 +4,15 @@ use Rattle.stride_base.specs.Listed.{Listed}
 use Rattle.stride_cli.specs.declared.words.Command.{Command}
 use Rattle.stride_cli.specs.declared.refusal.Refusal.{Refusal}
 use Rattle.stride_cli.specs.declared.refusal.Refusal.TheVariants as refusals
+use Rattle.stride_cli.specs.declared.status.Status.TheVariants as statuses
 use Rattle.stride_cli.specs.Answers.{AnswersInput, done, refused}
 use Rattle.stride_cli.specs.Refusals.{status_of}
+use Rattle.stride_cli.specs.Statuses.{fault_seen}
 
 -- the refusal is the command's answer; want of memory says nothing
 abbrev pub Refuses : Command → List ℕ → Refusal → Type 0
 Refuses command bytes refusals.NoMemory = Unit {0}
+Refuses command bytes (refusals.NoLinkage fault) = AnswersInput command bytes (refused (statuses.NoLinkage (fault_seen fault)))
 Refuses command bytes refusal = AnswersInput command bytes (refused (status_of refusal))
 
 -- what a command that has read its input comes to: the report of the answer, or its refusal

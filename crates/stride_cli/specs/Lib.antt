@@ -1,9 +1,13 @@
 pub mod Answers
+pub mod Bundles
 pub mod Gives
+pub mod Inferring
 pub mod Inputs
 pub mod Laws
+pub mod Looks
 pub mod Refusals
 pub mod Reports
+pub mod Runs
 pub mod Settings
 pub mod Statuses
 pub mod Telling

@@ -1,5 +1,5 @@
 -- The sections of reports, each a function of one value.
-use Rattle.std.specs.Prelude.{ℕ, ◌+◌, List, [], ◌∷◌, ◌++◌, codes, decimal, length}
+use Rattle.std.specs.Prelude.{ℕ, ◌+◌, ◌==◌, if◌then◌else◌, List, [], ◌∷◌, ◌++◌, Option, Some, None, codes, decimal, length}
 use Rattle.interleavings.specs.declared.event.LogEntry.{LogEntry}
 use Rattle.interleavings.specs.declared.event.LogEntry.TheVariants.{Read, Write, Update, Enter}
 use Rattle.log_format.specs.Bundles.{Bundled}
@@ -75,3 +75,46 @@ text_section text = codes "text" ++ (10 ∷ text)
 -- the report of `show`: the number of threads, the fuel, the logs and the text of a bundle
 abbrev pub show_report : Bundled → List ℕ
 show_report bundle = counts_section (length bundle.logs) bundle.fuel ++ (logs_section bundle.logs ++ text_section bundle.text)
+
+-- a line for each link of the thread's events, with their places from this one on
+abbrev pub link_lines : ℕ → ℕ → List (Option ℕ) → List ℕ
+link_lines thread place [] = []
+link_lines thread place (None ∷ links) = link_lines thread (place + 1) links
+link_lines thread place (Some number ∷ links) =
+    (decimal thread ++ (32 ∷ (decimal place ++ (32 ∷ (decimal number ++ 10 ∷ []))))) ++ link_lines thread (place + 1) links
+
+-- the lines of all links, with the threads' numbers from this one on
+abbrev pub links_lines : ℕ → List (List (Option ℕ)) → List ℕ
+links_lines thread [] = []
+links_lines thread (row ∷ rows) = link_lines thread 0 row ++ links_lines (thread + 1) rows
+
+-- the section `links`: of each read, in order of thread and place, the number of the write that it is linked to
+abbrev pub links_section : List (List (Option ℕ)) → List ℕ
+links_section rows = codes "links" ++ (10 ∷ links_lines 0 rows)
+
+-- a line for so many turns of one thread
+abbrev pub run_line : ℕ → ℕ → List ℕ
+run_line thread count = decimal thread ++ (42 ∷ (decimal count ++ 10 ∷ []))
+
+-- a line for each run of one thread number, where the first run has begun with so many turns of this thread
+abbrev pub run_lines : ℕ → ℕ → List ℕ → List ℕ
+run_lines thread count [] = run_line thread count
+run_lines thread count (next ∷ rest) =
+    if next == thread then run_lines thread (count + 1) rest else run_line thread count ++ run_lines next 1 rest
+
+-- a line for each run of one thread number
+abbrev pub schedule_lines : List ℕ → List ℕ
+schedule_lines [] = []
+schedule_lines (thread ∷ rest) = run_lines thread 1 rest
+
+-- the section `schedule`: how many turns there are, and the thread of each, run by run
+abbrev pub schedule_section : List ℕ → List ℕ
+schedule_section schedule = codes "schedule " ++ (decimal (length schedule) ++ (10 ∷ schedule_lines schedule))
+
+-- the report of `infer` on links and a schedule
+abbrev pub infer_report : List (List (Option ℕ)) → List ℕ → List ℕ
+infer_report links schedule = links_section links ++ schedule_section schedule
+
+-- the report of `replay` on a schedule and the machine at the end of its run
+abbrev pub replay_report : List ℕ → Machine → List ℕ
+replay_report schedule m = schedule_section schedule ++ follow_report m

@@ -2,8 +2,9 @@
 use Rattle.std.specs.Prelude.{ℕ, List, Option}
 use Rattle.stride_base.specs.Devices.{Adds, AddsFront}
 use Rattle.stride_cli.specs.declared.status.Status.{Status}
-use Rattle.stride_cli.specs.declared.status.Status.TheVariants.{Done, ReadFault, WriteFault, NoMemory}
+use Rattle.stride_cli.specs.declared.status.Status.TheVariants.{Done, NoLinkage, ReadFault, WriteFault, NoMemory}
 use Rattle.stride_cli.specs.Answers.{IsAnswer, done, refused}
+use Rattle.stride_cli.specs.Statuses.{fault_seen}
 
 -- the report of the answer, and what became of it
 abbrev pub Reported : List (List ℕ) → List ℕ → (List ℕ → Type 0) → Type 0
@@ -17,6 +18,7 @@ Tells words bytes old new ReadFault = Unit {0}
 Tells words bytes old new NoMemory = Unit {0}
 Tells words bytes old new Done = Reported words bytes (Adds old new)
 Tells words bytes old new WriteFault = Reported words bytes (AddsFront old new)
+Tells words bytes old new (NoLinkage fault) = IsAnswer words bytes (refused (NoLinkage (fault_seen fault)))
 Tells words bytes old new status = IsAnswer words bytes (refused status)
 
 -- a fact where the whole report was put

@@ -2,12 +2,12 @@
 use Rattle.std.specs.Prelude.{ℕ, List, [], ◌∷◌, Option, Some, None, codes, if◌then◌else◌}
 use Rattle.std.specs.Str.{bytes_eq}
 use Rattle.stride_cli.specs.declared.words.Command.{Command}
-use Rattle.stride_cli.specs.declared.words.Command.TheVariants.{Check, Follow, Sim, Show, Upgrade}
+use Rattle.stride_cli.specs.declared.words.Command.TheVariants.{Check, Follow, Infer, Replay, Show, Sim, Upgrade}
 
 -- the command of this name
 abbrev pub command_with_name : List ℕ → Option Command
 command_with_name name =
-    if bytes_eq name (codes "check") then Some Check else (if bytes_eq name (codes "follow") then Some Follow else (if bytes_eq name (codes "sim") then Some Sim else (if bytes_eq name (codes "show") then Some Show else (if bytes_eq name (codes "upgrade") then Some Upgrade else None))))
+    if bytes_eq name (codes "check") then Some Check else (if bytes_eq name (codes "follow") then Some Follow else (if bytes_eq name (codes "sim") then Some Sim else (if bytes_eq name (codes "show") then Some Show else (if bytes_eq name (codes "upgrade") then Some Upgrade else (if bytes_eq name (codes "infer") then Some Infer else (if bytes_eq name (codes "replay") then Some Replay else None))))))
 
 -- the command that the words name: one word, which is its name
 abbrev pub command_named : List (List ℕ) → Option Command

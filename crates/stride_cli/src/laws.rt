@@ -1,11 +1,13 @@
 //! Laws of answers, each as the contract of a function that does nothing.
-ghost use Rattle.stride_cli.specs.Laws.{AnAnswer, OneAnswer};
+ghost use Rattle.stride_cli.specs.Laws.{AnAnswer, OneAnswer, ReplaysAreRuns};
 
-/// The words and the bytes of an input have an answer.
+/// The words and the bytes of an input have an answer; the command `replay` is left out.
 pub fn an_answer()
     ensures { AnAnswer }
 {
     stride_isa::some_verdict();
+    linkage::links_or_refusal();
+    event_order::least_or_cycle();
 }
 
 /// The words and the bytes of an input have one answer at most.
@@ -13,4 +15,15 @@ pub fn one_answer()
     ensures { OneAnswer }
 {
     stride_isa::one_verdict();
+    linkage::one_first_refusal();
+    linkage::one_linking();
+    event_order::one_cycle();
+    event_order::one_least();
+    event_order::cycles_exclude();
 }
+
+/// Whatever bytes `replay` is done with, they spell a bundle, and the report tells of a run in which each thread makes exactly
+/// the events of its log, with its output and its end.
+pub fn replays_are_runs()
+    ensures { ReplaysAreRuns }
+{}

@@ -8,6 +8,7 @@
 #![tactic(auto)]
 
 mod commands;
+mod inferring;
 mod input;
 mod laws;
 mod messages;
@@ -18,6 +19,6 @@ mod settings;
 mod status;
 mod words;
 
-pub use laws::{an_answer, one_answer};
+pub use laws::{an_answer, one_answer, replays_are_runs};
 pub use offline_call::offline;
-pub use status::{MemberFault, ProgramFault, Status};
+pub use status::{LinkageFault, MemberFault, ProgramFault, Status};

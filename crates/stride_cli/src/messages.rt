@@ -1,6 +1,8 @@
 //! The words of messages: what is wrong, for the user who can mend it.
 
+use crate::status::LinkageFault;
 use assembler::AsmKind;
+use interleavings::Place;
 use std::fmt;
 use stride_base::limits::ORDER_LIMIT;
 use stride_isa::limits::{CELL_LIMIT, INSTRUCTION_LIMIT, MONITOR_LIMIT, STACK_LIMIT, THREAD_LIMIT};
@@ -74,4 +76,59 @@ impl fmt::Display for CheckWords<'_> {
             ),
         }
     }
+}
+
+/// Why events can't be linked, or have no order.
+#[derive(Clone, Copy)]
+pub struct LinkageWords<'a>(pub &'a LinkageFault);
+
+impl fmt::Display for LinkageWords<'_> {
+    fn fmt<W: fmt::Write>(&self, f: &mut fmt::Formatter<W>) -> fmt::Result {
+        match self.0 {
+            LinkageFault::TwiceWritten { cell, number } => {
+                write!(f, "two writes of cell {cell} have the number {number}")
+            }
+            LinkageFault::WriteGap { cell, number } => write!(
+                f,
+                "no write of cell {cell} has the number {number}, and one has a greater number"
+            ),
+            LinkageFault::TwiceTurned { mon, turn } => {
+                write!(f, "two entries into monitor {mon} have the turn {turn}")
+            }
+            LinkageFault::TurnGap { mon, turn } => write!(
+                f,
+                "no exit from monitor {mon} ends the turn {turn}, and an entry has a greater turn"
+            ),
+            LinkageFault::BoundTooLarge { at } => write!(
+                f,
+                "thread {thread}, event {place}, both counted from 0: the bound of the read is above every number of its cell",
+                thread = at.thread,
+                place = at.place
+            ),
+            LinkageFault::NoEqualWrite { at } => write!(
+                f,
+                "thread {thread}, event {place}, both counted from 0: no write within the bound of the read stored its value",
+                thread = at.thread,
+                place = at.place
+            ),
+            LinkageFault::UpdateMismatch { at } => write!(
+                f,
+                "thread {thread}, event {place}, both counted from 0: the write before the update did not store its old value",
+                thread = at.thread,
+                place = at.place
+            ),
+            LinkageFault::Cycle { places } => write_cycle(f, places.as_slice()),
+        }
+    }
+}
+
+fn write_cycle<W: fmt::Write>(f: &mut fmt::Formatter<W>, places: &[Place]) -> fmt::Result {
+    write!(
+        f,
+        "the events have no order: of these, by thread and event, both counted from 0, each has to come before the next and the last before the first:"
+    )?;
+    for at in places {
+        write!(f, " {thread}:{place}", thread = at.thread, place = at.place)?;
+    }
+    Ok(())
 }

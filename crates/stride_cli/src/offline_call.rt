@@ -1,6 +1,7 @@
 //! The top call for all commands that start no thread.
-ghost use Rattle.std.specs.Prelude.{◌≡◌, ◌≤◌, ◌↔◌, [], None, Some, IfSome, map, length};
+ghost use Rattle.std.specs.Prelude.{◌≡◌, ◌+◌, ◌≤◌, ◌↔◌, [], None, Some, IfSome, map, length};
 ghost use Rattle.stride_base.specs.Devices.{Rose};
+ghost use Rattle.stride_cli.specs.Looks.{BeforeLinking, OnUnlinking, most_looks};
 ghost use Rattle.stride_cli.specs.Telling.{Tells, OnDone, OnReadFault, OnWriteFault, OnRefusal};
 ghost use Rattle.stride_cli.specs.Words.{command_named};
 
@@ -13,7 +14,7 @@ use stride_base::limits::INPUT_LIMIT;
 use stride_base::{Failed, InputError, Sink, Source, Steps, put_all, read_all};
 
 /// Does the command that the words name (the program's name is none of them): reads the whole input, and puts the
-/// whole report only when it is made. It starts no thread, and counts no step.
+/// whole report only when it is made. It starts no thread.
 ///
 /// What is said of bytes holds where the source and the sink tell theirs.
 pub fn offline<S: Source, K: Sink, L: Ledger>(
@@ -37,7 +38,10 @@ pub fn offline<S: Source, K: Sink, L: Ledger>(
     ensures write_fault { OnWriteFault result (Rose (K.faults sink.old) (K.faults sink.new)) }
     ensures counted { (S.faults source.old ≤ S.faults source.new) × (K.faults sink.old ≤ K.faults sink.new) }
 
-    ensures uncounted { steps.new ≡ steps.old }
+    // The counter stands still but for the commands that link, and where these end before that. They take at most so many looks.
+    ensures uncounted { OnUnlinking (command_named (map (λ word. word.now) words.entry.now)) (steps.new ≡ steps.old) }
+    ensures early { BeforeLinking result (steps.new ≡ steps.old) }
+    ensures looks { IfSome (S.left source.old) (λ bytes. steps.new ≤ steps.old + most_looks (command_named (map (λ word. word.now) words.entry.now)) bytes) }
 {
     let Some(command) = command_of(words) else {
         return Status::Usage;
@@ -48,7 +52,7 @@ pub fn offline<S: Source, K: Sink, L: Ledger>(
         Err(InputError::TooLong) => return Status::TooLong,
         Err(InputError::NoMemory) => return Status::NoMemory,
     };
-    let report = match report_of(alloc, command, bytes.as_slice()) {
+    let report = match report_of(alloc, command, bytes.as_slice(), steps) {
         Ok(report) => report,
         Err(refusal) => return refusal.into_status(),
     };

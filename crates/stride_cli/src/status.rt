@@ -1,10 +1,12 @@
 //! How a command ends.
 ghost use Rattle.std.specs.Prelude.{◌≡◌};
 
-use crate::messages::{CheckWords, TextWords};
+use crate::messages::{CheckWords, LinkageWords, TextWords};
 use assembler::AsmKind;
+use interleavings::Place;
 use log_format::FormatKind;
 use std::fmt;
+use stride_base::List;
 use stride_base::limits::INPUT_LIMIT;
 use stride_isa::CheckKind;
 use thiserror::Error;
@@ -40,8 +42,29 @@ pub enum MemberFault {
     CannotGoOn,
 }
 
+/// Why the events of logs can't be linked, or have no order. Cells, monitors, threads and events are counted from 0.
+#[derive(Drop)]
+pub enum LinkageFault {
+    /// Two writes of the cell have this number.
+    TwiceWritten { cell: u32, number: u32 },
+    /// No write of the cell has this number, and one has a greater.
+    WriteGap { cell: u32, number: u32 },
+    /// Two entries into the monitor have this turn.
+    TwiceTurned { mon: u32, turn: u32 },
+    /// No exit from the monitor has this turn, and an entry has a greater.
+    TurnGap { mon: u32, turn: u32 },
+    /// The bound of this read is above every number of its cell.
+    BoundTooLarge { at: Place },
+    /// No write within the bound of this read stored its value.
+    NoEqualWrite { at: Place },
+    /// The write numbered one below this update did not store the update's old value.
+    UpdateMismatch { at: Place },
+    /// Each of these events has to come before the next, and the last before the first.
+    Cycle { places: List<Place> },
+}
+
 /// How a command ends. `code` gives the exit status of the process.
-#[derive(Debug, Drop)]
+#[derive(Drop)]
 pub enum Status {
     /// The input was read to its end, and the whole report was put.
     Done,
@@ -55,6 +78,10 @@ pub enum Status {
     Program { fault: ProgramFault },
     /// The input is no bundle: what is wrong, at this offset.
     Bundle { kind: FormatKind, offset: u64 },
+    /// The thread diverges from its log at this entry, both counted from 0: the entry doesn't fit what the thread does there.
+    Diverges { thread: u32, place: u32 },
+    /// The events of the logs can't be linked, or have no order.
+    NoLinkage { fault: LinkageFault },
     /// The member of the order at this place, counted from 0, can take no turn.
     NotEnabled { place: u32, fault: MemberFault },
     /// The report could not be written.
@@ -77,6 +104,11 @@ impl Status {
             Status::TooLong => 3,
             Status::Program { fault: _ } => 4,
             Status::Bundle { kind: _, offset: _ } => 5,
+            Status::Diverges {
+                thread: _,
+                place: _,
+            } => 6,
+            Status::NoLinkage { fault: _ } => 7,
             Status::NotEnabled { place: _, fault: _ } => 8,
             Status::WriteFault => 9,
             Status::NoMemory => 10,
@@ -90,7 +122,7 @@ impl fmt::Display for Status {
             Status::Done => write!(f, "done"),
             Status::Usage => write!(
                 f,
-                "usage: stride COMMAND < INPUT, with one COMMAND of check, follow, sim, show, upgrade"
+                "usage: stride COMMAND < INPUT, with one COMMAND of check, follow, sim, show, upgrade, infer, replay"
             ),
             Status::ReadFault => write!(
                 f,
@@ -102,6 +134,11 @@ impl fmt::Display for Status {
             ),
             Status::Program { fault } => write!(f, "{fault}"),
             Status::Bundle { kind, offset } => write!(f, "offset {offset}: {kind}"),
+            Status::Diverges { thread, place } => write!(
+                f,
+                "thread {thread}, entry {place} of its log, both counted from 0: the thread does something else there than was logged"
+            ),
+            Status::NoLinkage { fault } => write!(f, "{words}", words = LinkageWords(fault)),
             Status::NotEnabled { place, fault } => {
                 write!(f, "member {place} of the order, counted from 0, {fault}")
             }

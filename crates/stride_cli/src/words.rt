@@ -15,6 +15,10 @@ pub enum Command {
     Show,
     /// Spells a bundle of either version in version 2.
     Upgrade,
+    /// Links the reads of a bundle, and brings its events into an order.
+    Infer,
+    /// Plays that order on the sequentially consistent machine.
+    Replay,
 }
 
 fn command_called(name: &str) -> Option<Command>
@@ -26,6 +30,8 @@ fn command_called(name: &str) -> Option<Command>
         "sim" => Some(Command::Sim),
         "show" => Some(Command::Show),
         "upgrade" => Some(Command::Upgrade),
+        "infer" => Some(Command::Infer),
+        "replay" => Some(Command::Replay),
         _ => None,
     }
 }

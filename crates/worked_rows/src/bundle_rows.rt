@@ -1,6 +1,6 @@
 //! Rows of the commands that read bundles.
 
-use crate::rows::{Ending, Row, plain_run, play_all};
+use crate::rows::{Ending, Misfit, Row, plain_run, play_all};
 use log_format::FormatKind;
 use std::alloc::Global;
 use std::process::Abort;
@@ -23,6 +23,18 @@ const MEETING: [u8; 52] =
 /// The same as `WRITING`, in version 2.
 const WRITING_TWO: [u8; 67] =
     *b"STRIDE2\n\xa0\x8d\x06\x30var x 0\nthread\npush 4\nwrite x\nread x\nprint\nhalt\n\x01\x02\x02\x01\x01\x04\x02";
+
+/// Two threads, each of which writes a variable of its own and then read the other's starting value.
+const CROSSING: [u8; 156] =
+    *b"STRIDE1\n\x00\x01\x86\xa0\x00\x00\x00^var x 0\nvar y 0\nthread\npush 1\nwrite x\nread y\ndrop\nhalt\nthread\npush 1\nwrite y\nread x\ndrop\nhalt\n\x00\x02\x00\x00\x00\x02\x02\x00\x00\x00\x01\x01\x00\x00\x00\x00\x00\x00\x00\x00\x00\x00\x00\x00\x00\x00\x00\x02\x02\x00\x00\x00\x01\x01\x00\x00\x00\x00\x00\x00\x00\x00\x00\x00\x00\x00";
+
+/// A thread that reads, and by its log wrote.
+const DIVERGING: [u8; 96] =
+    *b"STRIDE1\n\x00\x01\x86\xa0\x00\x00\x00<var x 0\nthread\nread x\nprint\nhalt\nthread\npush 7\nwrite x\nhalt\n\x00\x02\x00\x00\x00\x01\x02\x00\x00\x00\x01\x00\x00\x00\x01\x02\x00\x00\x00\x01";
+
+/// Two threads that updated a variable one after the other.
+const UPDATING: [u8; 94] =
+    *b"STRIDE2\n\xa0\x8d\x06Ivar x 0\nthread\npush 5\naddto x\nprint\nhalt\nthread\npush 7\nxchg x\nprint\nhalt\n\x02\x01\x04\x00\x01\x01\x04\x05\x02";
 
 fn row<'a>(words: &'a [&'a str], bytes: &'a [u8], ending: Ending, held: &'a [u8]) -> Row<'a> {
     Row {
@@ -73,6 +85,39 @@ fn bundles_are_shown_and_upgraded(rt: HostRuntime) -> Result<(), Fail> {
         ),
         row(&["upgrade"], &WRITING, Ending::Done, &WRITING_TWO),
         row(&["upgrade"], &WRITING_TWO, Ending::Done, &WRITING_TWO),
+    ];
+    play_all(&rt, rt.alloc(), &rows)
+}
+
+#[test]
+fn bundles_are_inferred_and_replayed(rt: HostRuntime) -> Result<(), Fail> {
+    let links: &[u8] = b"links\n0 1 1\nschedule 2\n0*2\n";
+    let run: &[u8] = b"schedule 2\n0*2\ntranscript\n0 4\nends\n0 halted\n";
+    let rows = [
+        row(&["infer"], &WRITING, Ending::Done, links),
+        row(&["infer"], &WRITING_TWO, Ending::Done, links),
+        row(&["replay"], &WRITING, Ending::Done, run),
+        row(&["replay"], &WRITING_TWO, Ending::Done, run),
+        row(
+            &["replay"],
+            &UPDATING,
+            Ending::Done,
+            b"schedule 2\n0*1\n1*1\ntranscript\n0 0\n1 5\nends\n0 halted\n1 halted\n",
+        ),
+        row(&["infer"], &DIVERGING, Ending::Diverges(0, 0), b""),
+        row(&["replay"], &DIVERGING, Ending::Diverges(0, 0), b""),
+        row(
+            &["infer"],
+            &CROSSING,
+            Ending::NoLinkage(Misfit::Cycle(4)),
+            b"",
+        ),
+        row(
+            &["replay"],
+            &CROSSING,
+            Ending::NoLinkage(Misfit::Cycle(4)),
+            b"",
+        ),
     ];
     play_all(&rt, rt.alloc(), &rows)
 }

@@ -2,6 +2,7 @@
 ghost use Rattle.std.specs.Prelude.{◌≡◌, ◌<◌};
 
 use assembler::AsmKind;
+use interleavings::Place;
 use log_format::FormatKind;
 use std::alloc::Global;
 use std::marker::Brand;
@@ -11,8 +12,37 @@ use std::sync::ledger::{Blank, Ledger};
 use std::test::Fail;
 use std::thread::Threads;
 use stride_base::{MemSink, MemSource, Steps};
-use stride_cli::{MemberFault, ProgramFault, Status, offline};
+use stride_cli::{LinkageFault, MemberFault, ProgramFault, Status, offline};
 use stride_isa::CheckKind;
+
+/// Why events can't be linked, or have no order.
+#[derive(Clone, Copy, Debug, PartialEq, Eq)]
+pub(crate) enum Misfit {
+    TwiceWritten(u32, u32),
+    WriteGap(u32, u32),
+    TwiceTurned(u32, u32),
+    TurnGap(u32, u32),
+    BoundTooLarge(Place),
+    NoEqualWrite(Place),
+    UpdateMismatch(Place),
+    /// A cycle of so many events.
+    Cycle(usize),
+}
+
+impl Misfit {
+    fn of(fault: &LinkageFault) -> Misfit {
+        match fault {
+            LinkageFault::TwiceWritten { cell, number } => Misfit::TwiceWritten(*cell, *number),
+            LinkageFault::WriteGap { cell, number } => Misfit::WriteGap(*cell, *number),
+            LinkageFault::TwiceTurned { mon, turn } => Misfit::TwiceTurned(*mon, *turn),
+            LinkageFault::TurnGap { mon, turn } => Misfit::TurnGap(*mon, *turn),
+            LinkageFault::BoundTooLarge { at } => Misfit::BoundTooLarge(*at),
+            LinkageFault::NoEqualWrite { at } => Misfit::NoEqualWrite(*at),
+            LinkageFault::UpdateMismatch { at } => Misfit::UpdateMismatch(*at),
+            LinkageFault::Cycle { places } => Misfit::Cycle(places.len()),
+        }
+    }
+}
 
 /// How a command ends, with the details that are told.
 #[derive(Clone, Copy, Debug, PartialEq, Eq)]
@@ -27,6 +57,10 @@ pub(crate) enum Ending {
     Code(CheckKind, u32, u32, u32),
     /// A bundle, refused at this offset.
     Bundle(FormatKind, u64),
+    /// Logs from which this thread diverges, at this entry.
+    Diverges(u32, u32),
+    /// Logs whose events can't be linked, or have no order.
+    NoLinkage(Misfit),
     /// An order, refused at this place.
     NotEnabled(u32, MemberFault),
     WriteFault,
@@ -52,6 +86,8 @@ impl Ending {
                 },
             } => Ending::Code(*kind, *line, *thread, *instruction),
             Status::Bundle { kind, offset } => Ending::Bundle(*kind, *offset),
+            Status::Diverges { thread, place } => Ending::Diverges(*thread, *place),
+            Status::NoLinkage { fault } => Ending::NoLinkage(Misfit::of(fault)),
             Status::NotEnabled { place, fault } => Ending::NotEnabled(*place, *fault),
             Status::WriteFault => Ending::WriteFault,
             Status::NoMemory => Ending::NoMemory,
@@ -67,6 +103,8 @@ impl Ending {
             Ending::TooLong => 3,
             Ending::Text(_, _) | Ending::Code(_, _, _, _) => 4,
             Ending::Bundle(_, _) => 5,
+            Ending::Diverges(_, _) => 6,
+            Ending::NoLinkage(_) => 7,
             Ending::NotEnabled(_, _) => 8,
             Ending::WriteFault => 9,
             Ending::NoMemory => 10,

@@ -27,8 +27,8 @@ fn fault_of(program: &Checked, thread: u8) -> MemberFault
     }
 }
 
-// The refusal of an order that is no schedule of the program.
-fn refused_order(program: &Checked, order: &[u8], error: ReplayError) -> Refusal
+/// The refusal of an order that is no schedule of the program.
+pub fn refused_order(program: &Checked, order: &[u8], error: ReplayError) -> Refusal
     ensures { result ≡ of_replay program.now order.now error }
 {
     match error {

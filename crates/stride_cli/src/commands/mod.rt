@@ -1,9 +1,12 @@
 //! The commands: one file a command, and the arm that calls it.
-ghost use Rattle.std.specs.Prelude.{◌≤◌, length};
+ghost use Rattle.std.specs.Prelude.{◌≡◌, ◌+◌, ◌≤◌, length, IfErr};
 ghost use Rattle.stride_cli.specs.Gives.{Gives};
+ghost use Rattle.stride_cli.specs.Looks.{OnEarly, OnUnlinking, command_looks};
 
 mod check;
 mod follow;
+mod infer;
+mod replay;
 mod show;
 mod sim;
 mod upgrade;
@@ -12,17 +15,28 @@ use crate::refusal::Refusal;
 use crate::words::Command;
 use check::check_text;
 use follow::follow_schedule;
+use infer::infer_bundle;
+use replay::replay_bundle;
 use show::show_bundle;
 use sim::simulate;
 use std::alloc::Global;
-use stride_base::List;
+use std::sync::ledger::Ledger;
 use stride_base::limits::INPUT_LIMIT;
+use stride_base::{List, Steps};
 use upgrade::upgrade_bundle;
 
 /// The report of a command on an input that was read.
-pub fn report_of(alloc: Global, command: Command, bytes: &[u8]) -> Result<List<u8>, Refusal>
+pub fn report_of<L: Ledger>(
+    alloc: Global,
+    command: Command,
+    bytes: &[u8],
+    steps: &mut Steps<L>,
+) -> Result<List<u8>, Refusal>
     requires { length bytes.now ≤ INPUT_LIMIT }
-    ensures { Gives result command bytes.now }
+    ensures answer { Gives result command bytes.now }
+    ensures early { IfErr result (λ refusal. OnEarly refusal (steps.new ≡ steps.old)) }
+    ensures unlinking { OnUnlinking (Some command) (steps.new ≡ steps.old) }
+    ensures looks { steps.new ≤ steps.old + command_looks command bytes.now }
 {
     match command {
         Command::Check => check_text(alloc, bytes),
@@ -30,5 +44,7 @@ pub fn report_of(alloc: Global, command: Command, bytes: &[u8]) -> Result<List<u
         Command::Sim => simulate(alloc, bytes),
         Command::Show => show_bundle(alloc, bytes),
         Command::Upgrade => upgrade_bundle(alloc, bytes),
+        Command::Infer => infer_bundle(alloc, bytes, steps),
+        Command::Replay => replay_bundle(alloc, bytes, steps),
     }
 }

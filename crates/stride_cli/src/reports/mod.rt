@@ -3,8 +3,12 @@
 mod counts;
 mod ends;
 mod line;
+mod links;
 mod logs;
+mod schedule;
 
 pub use counts::{put_counts, put_text};
 pub use ends::put_ends;
+pub use links::put_links;
 pub use logs::put_logs;
+pub use schedule::put_schedule;

@@ -1,0 +1,5 @@
+use Rattle.stride_cli.proofs.ReplaysAreRuns.{replays_are_runs as replays_are_runs_by}
+use Rattle.stride_cli.proofs.laws.replays_are_runs.Goals as goal
+
+pub returns : goal.returns
+returns c = replays_are_runs_by

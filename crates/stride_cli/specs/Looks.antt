@@ -1,0 +1,90 @@
+-- How many looks at events and links a command takes at most.
+use Rattle.std.specs.Prelude.{ℕ, ◌+◌, List, Option, Some, None, Result, Ok, Err}
+use Rattle.stride_isa.specs.Listing.{Listing}
+use Rattle.interleavings.specs.Following.{Divergence, Followed, follow_all}
+use Rattle.interleavings.specs.TraceLists.{TraceLists}
+use Rattle.log_format.specs.Bundles.{Bundled}
+use Rattle.log_format.specs.Reading.{reading, Refusal as FormatRefusal}
+use Rattle.assembler.specs.Programs.{LineFault, spelled}
+use Rattle.linkage.specs.Links.{most_looks as most_looks_of_linking}
+use Rattle.linkage.specs.Sources.{event_count}
+use Rattle.event_order.specs.Answers.{most_looks as most_looks_of_order}
+use Rattle.event_order.specs.Laws.{traces_of}
+use Rattle.stride_cli.specs.declared.refusal.Refusal.{Refusal}
+use Rattle.stride_cli.specs.declared.refusal.Refusal.TheVariants as refusals
+use Rattle.stride_cli.specs.declared.status.Status.{Status}
+use Rattle.stride_cli.specs.declared.status.Status.TheVariants as statuses
+use Rattle.stride_cli.specs.declared.words.Command.{Command}
+use Rattle.stride_cli.specs.declared.words.Command.TheVariants.{Check, Follow, Sim, Show, Upgrade, Infer, Replay}
+
+-- linking and ordering these events
+abbrev pub inferring_looks : TraceLists → ℕ
+inferring_looks traces = most_looks_of_linking traces + most_looks_of_order traces
+
+-- the same, and a look at the link of each event, which is printed
+abbrev pub printing_looks : TraceLists → ℕ
+printing_looks traces = inferring_looks traces + event_count traces
+
+-- the share of threads that were followed; none where one diverges
+abbrev pub followed_looks : (TraceLists → ℕ) → Listing → Result (List Followed) Divergence → ℕ
+followed_looks share p (Ok all) = share (traces_of p all)
+followed_looks share p (Err divergence) = 0
+
+-- the share of the program of a bundle; none where its text spells none
+abbrev pub spelled_looks : (TraceLists → ℕ) → Bundled → Result Listing LineFault → ℕ
+spelled_looks share bundle (Ok p) = followed_looks share p (follow_all p bundle.fuel bundle.logs)
+spelled_looks share bundle (Err fault) = 0
+
+-- the share of a bundle that was read; none where the bytes are no bundle
+abbrev pub bundle_looks : (TraceLists → ℕ) → Result Bundled FormatRefusal → ℕ
+bundle_looks share (Ok bundle) = spelled_looks share bundle (spelled bundle.text)
+bundle_looks share (Err refusal) = 0
+
+-- the share of a command
+abbrev pub command_looks : Command → List ℕ → ℕ
+command_looks Infer bytes = bundle_looks printing_looks (reading bytes)
+command_looks Replay bytes = bundle_looks inferring_looks (reading bytes)
+command_looks Check bytes = 0
+command_looks Follow bytes = 0
+command_looks Sim bytes = 0
+command_looks Show bytes = 0
+command_looks Upgrade bytes = 0
+
+-- how many looks the command that is named takes at most on an input
+abbrev pub most_looks : Option Command → List ℕ → ℕ
+most_looks None bytes = 0
+most_looks (Some command) bytes = command_looks command bytes
+
+-- a fact where the command links nothing
+abbrev pub OnUnlinking : Option Command → Type 0 → Type 0
+OnUnlinking None fact = fact
+OnUnlinking (Some Check) fact = fact
+OnUnlinking (Some Follow) fact = fact
+OnUnlinking (Some Sim) fact = fact
+OnUnlinking (Some Show) fact = fact
+OnUnlinking (Some Upgrade) fact = fact
+OnUnlinking (Some Infer) fact = Unit {0}
+OnUnlinking (Some Replay) fact = Unit {0}
+
+-- a fact where the refusal comes before linking
+abbrev pub OnEarly : Refusal → Type 0 → Type 0
+OnEarly (refusals.Program fault) fact = fact
+OnEarly (refusals.Bundle kind offset) fact = fact
+OnEarly (refusals.Diverges thread place) fact = fact
+OnEarly (refusals.NotEnabled place fault) fact = fact
+OnEarly (refusals.NoLinkage fault) fact = Unit {0}
+OnEarly refusals.NoMemory fact = Unit {0}
+
+-- a fact where the call ends before linking
+abbrev pub BeforeLinking : Status → Type 0 → Type 0
+BeforeLinking statuses.Usage fact = fact
+BeforeLinking statuses.ReadFault fact = fact
+BeforeLinking statuses.TooLong fact = fact
+BeforeLinking (statuses.Program fault) fact = fact
+BeforeLinking (statuses.Bundle kind offset) fact = fact
+BeforeLinking (statuses.Diverges thread place) fact = fact
+BeforeLinking (statuses.NotEnabled place fault) fact = fact
+BeforeLinking (statuses.NoLinkage fault) fact = Unit {0}
+BeforeLinking statuses.Done fact = Unit {0}
+BeforeLinking statuses.WriteFault fact = Unit {0}
+BeforeLinking statuses.NoMemory fact = Unit {0}

@@ -1,0 +1,68 @@
+//! What the logs of a bundle come to: an order of all events, or why there is none.
+ghost use Rattle.std.specs.Prelude.{◌≡◌, ◌+◌, ◌≤◌, length, IfOk, IfErr};
+ghost use Rattle.stride_cli.specs.Bundles.{IsRerun, RefusesEvents};
+ghost use Rattle.stride_cli.specs.Gives.{Refuses};
+ghost use Rattle.stride_cli.specs.Inferring.{IsInferredOf, Ordered};
+ghost use Rattle.stride_cli.specs.Looks.{inferring_looks};
+ghost use Rattle.stride_cli.specs.declared.words.Command.TheVariants.{Infer, Replay};
+
+use crate::input::accept;
+use crate::refusal::Refusal;
+use event_order::arrange;
+use interleavings::Traces;
+use linkage::{Links, link};
+use log_format::decode;
+use std::alloc::Global;
+use std::sync::ledger::Ledger;
+use stride_base::limits::INPUT_LIMIT;
+use stride_base::{List, Steps};
+use stride_isa::Checked;
+use thread_rerun::rerun;
+
+/// An accepted program with its fuel, and the events of its threads.
+#[derive(Drop)]
+pub struct Rerunning {
+    pub program: Checked,
+    pub fuel: u32,
+    pub traces: Traces,
+}
+
+/// Runs the threads of a bundle's program again, each by its log.
+pub fn rerun_bundle(alloc: Global, bytes: &[u8]) -> Result<Rerunning, Refusal>
+    requires { length bytes.now ≤ INPUT_LIMIT }
+    ensures rerun { IfOk result (λ rerun. IsRerun bytes.now rerun.program rerun.fuel rerun.traces) }
+    ensures infer { IfErr result (Refuses Infer bytes.now) }
+    ensures replay { IfErr result (Refuses Replay bytes.now) }
+{
+    let bundle = decode(alloc, bytes)?;
+    let program = accept(alloc, bundle.text.as_slice())?;
+    let rerun = rerun(alloc, &program, bundle.fuel, &bundle.logs)?;
+    rerun.traces.threads();
+    Ok(Rerunning {
+        program,
+        fuel: bundle.fuel,
+        traces: rerun.traces,
+    })
+}
+
+/// The links of all reads, and the schedule of all events.
+#[derive(Drop)]
+pub struct Order {
+    pub links: Links,
+    pub schedule: List<u8>,
+}
+
+/// Links the reads, and brings the events into the least order.
+pub fn order_events<L: Ledger>(
+    alloc: Global,
+    traces: &Traces,
+    steps: &mut Steps<L>,
+) -> Result<Order, Refusal>
+    ensures ordered { IfOk result (λ order. IsInferredOf traces.now (Ordered (record { links = order.links; schedule = order.schedule.items }))) }
+    ensures refused { IfErr result (RefusesEvents traces.now) }
+    ensures looks { steps.new ≤ steps.old + inferring_looks traces.now }
+{
+    let links = link(alloc, traces, steps)?;
+    let schedule = arrange(alloc, traces, &links, steps)?;
+    Ok(Order { links, schedule })
+}
