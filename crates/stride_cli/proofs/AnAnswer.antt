@@ -1,13 +1,15 @@
 -- Words and bytes have an answer.
-use Rattle.std.proofs.Common.{◌≡◌, ◌⊎◌, inl, inr, ap, ℕ, Bool, true, false, List, Option, Some, None, Result, Ok, Err, refl, length, nat_lt}
+use Rattle.std.proofs.Common.{◌≡◌, ◌⊎◌, inl, inr, ℕ, Bool, true, false, List, Option, Some, None, Result, Ok, Err, refl, subst, sym, length, nat_lt}
 use Rattle.std.specs.Bool.{MatchBool}
 use Rattle.stride_base.specs.declared.limits.TheConstants.{INPUT_LIMIT}
-use Rattle.stride_isa.specs.Faults.{Fault}
-use Rattle.stride_isa.specs.Laws.{HasVerdict}
+use Rattle.stride_isa.specs.Faults.{Fault, IsVerdict}
+use Rattle.stride_isa.specs.Laws.{EachCellStarts, HasVerdict}
 use Rattle.stride_isa.specs.Listing.{Listing}
+use Rattle.stride_isa.specs.Validity.{IsValid}
 use Rattle.assembler.specs.Programs.{LineFault, spelled}
 use Rattle.interleavings.specs.declared.traces.Place.{Place}
 use Rattle.interleavings.specs.Following.{Divergence, Followed, follow_all}
+use Rattle.interleavings.specs.Laws.{FollowedWalks}
 use Rattle.interleavings.specs.TraceLists.{TraceLists}
 use Rattle.linkage.specs.Answers.{IsWhole}
 use Rattle.linkage.specs.Laws.{LinksOrRefusal}
@@ -15,27 +17,33 @@ use Rattle.linkage.specs.Refusals.{IsFirstRefusal}
 use Rattle.linkage.specs.declared.link_error.LinkError.{LinkError}
 use Rattle.event_order.specs.Cycles.{IsCycle, IsTheCycle}
 use Rattle.event_order.specs.DirectOrder.{LinkRows}
-use Rattle.event_order.specs.Laws.{LeastOrCycle, traces_of}
+use Rattle.event_order.specs.Laws.{ExtensionsAreRuns, IsRunOf, LeastOrCycle, traces_of}
 use Rattle.event_order.specs.Least.{IsLeast}
 use Rattle.log_format.specs.Bundles.{Bundled}
 use Rattle.log_format.specs.Reading.{reading, Refusal as FormatRefusal}
 use Rattle.stride_cli.specs.declared.words.Command.{Command}
 use Rattle.stride_cli.specs.declared.words.Command.TheVariants.{Check, Follow, Infer, Replay, Show, Sim, Upgrade}
 use Rattle.stride_cli.specs.declared.status.Status.TheVariants.{Bundle, Diverges, Usage, TooLong}
-use Rattle.stride_cli.specs.Answers.{Answer, AnswersBundle, AnswersBy, AnswersInference, AnswersInput, AnswersLinks, AnswersLogs, AnswersProgram, AnswersSpelled, AnswersVerdict, circular, done, judged, program_part, refused, refused_code, refused_text, shown, unlinked, upgraded}
-use Rattle.stride_cli.specs.Inferring.{Circular, Diverging, Inference, IsInferredBy, IsInferredOf, Ordered, Unlinked}
+use Rattle.stride_cli.specs.Answers.{Answer, AnswersBundle, AnswersBy, AnswersInference, AnswersInput, AnswersLinks, AnswersLogs, AnswersProgram, AnswersRun, AnswersSpelled, AnswersVerdict, circular, done, judged, program_part, refused, refused_code, refused_text, shown, unlinked, upgraded}
+use Rattle.stride_cli.specs.Inferring.{Circular, Diverging, Inference, Inferred, IsInferred, IsInferredBy, IsInferredOf, Ordered, Unlinked}
 use Rattle.stride_cli.specs.Laws.{AnAnswer}
-use Rattle.stride_cli.specs.Reports.{infer_report}
+use Rattle.stride_cli.specs.Reports.{infer_report, replay_report}
 use Rattle.stride_cli.specs.Words.{command_named}
+use Rattle.stride_cli.proofs.FollowedRanges.{followed_in_range}
+use Rattle.stride_cli.proofs.Fuels.{read_some}
 
 text_answer : HasVerdict → (text : List ℕ) (s : Result Listing LineFault) (accepted : Listing → Answer) → (answer : Answer) × AnswersSpelled text s accepted answer
 text_answer each text (Err fault) accepted = (refused_text fault, refl)
 text_answer each text (Ok p) accepted = let judgement = each p in (judged text judgement.0 (accepted p), (judgement.0, (judgement.1, refl)))
 
--- what the laws of linking and of the direct order say
+-- what the laws say of linking, of the direct order and of threads that are followed
 pub record Laws : Type 0 where
+  pub verdict : HasVerdict
   pub links : LinksOrRefusal
   pub order : LeastOrCycle
+  pub runs : ExtensionsAreRuns
+  pub walks : FollowedWalks
+  pub starts : EachCellStarts
 
 -- events come to something
 by_order : (traces : TraceLists) (links : LinkRows) → IsWhole traces links → ((schedule : List ℕ) × IsLeast traces links schedule) ⊎ ((cycle : List Place) × IsTheCycle traces links cycle × IsCycle traces links cycle) → (inference : Inference) × IsInferredOf traces inference
@@ -51,50 +59,72 @@ inference : Laws → (p : Listing) (r : Result (List Followed) Divergence) → (
 inference there p (Err divergence) = (Diverging divergence, refl)
 inference there p (Ok all) = by_links there (traces_of p all) (there.links (traces_of p all))
 
--- which has an answer of `infer`
-shown_links : (p : Listing) (bundle : Bundled) (inference : Inference) → (answer : Answer) × AnswersInference (AnswersLinks p bundle) inference answer
-shown_links p bundle (Diverging divergence) = (refused (Diverges divergence.thread divergence.place), refl)
-shown_links p bundle (Unlinked refusal) = (refused (unlinked refusal), refl)
-shown_links p bundle (Circular cycle) = (refused (circular cycle), refl)
-shown_links p bundle (Ordered inferred) = (done (infer_report inferred.links inferred.schedule), refl)
+module _ (there : Laws) (bytes : List ℕ) where
+  -- what logs come to has an answer of `infer`
+  shown_links : (bundle : Bundled) → reading bytes ≡ Ok bundle → (p : Listing) → IsValid p → (inference : Inference) → IsInferred p bundle.fuel bundle.logs inference → (answer : Answer) × AnswersInference (AnswersLinks p bundle) inference answer
+  shown_links bundle reads p valid (Diverging divergence) is = (refused (Diverges divergence.thread divergence.place), refl)
+  shown_links bundle reads p valid (Unlinked refusal) is = (refused (unlinked refusal), refl)
+  shown_links bundle reads p valid (Circular cycle) is = (refused (circular cycle), refl)
+  shown_links bundle reads p valid (Ordered inferred) is = (done (infer_report inferred.links inferred.schedule), refl)
 
-logs_answer : Laws → (bundle : Bundled) (p : Listing) → (answer : Answer) × AnswersLogs AnswersLinks bundle p answer
-logs_answer there bundle p =
-    let found = inference there p (follow_all p bundle.fuel bundle.logs) in
-    let shown = shown_links p bundle found.0 in
-    (shown.0, (found.0, (found.1, shown.1)))
+  -- the least schedule of threads that were followed has a run
+  shown_order : (bundle : Bundled) → reading bytes ≡ Ok bundle → (p : Listing) → IsValid p → (all : List Followed) → follow_all p bundle.fuel bundle.logs ≡ Ok all → (inferred : Inferred) → IsInferredOf (traces_of p all) (Ordered inferred) → (answer : Answer) × AnswersRun p bundle inferred answer
+  shown_order bundle reads p valid all follows inferred is =
+      let some = read_some bytes bundle reads in
+      let range = followed_in_range there.walks there.starts p valid bundle.fuel some bundle.logs all follows in
+      let Q : List ℕ → Type 0 = λ schedule. IsRunOf p bundle.fuel all schedule in
+      let run = subst Q (sym is.1.of_places) (there.runs p bundle.fuel bundle.logs all inferred.links is.1.places some follows is.0.unrefused range is.0.linked is.1.extends) in
+      (done (replay_report inferred.schedule run.machine), record { all = all; follows = follows; run = run; shows = refl })
 
-verdict_answer : Laws → (bundle : Bundled) (p : Listing) (verdict : Option Fault) → (answer : Answer) × AnswersVerdict bundle.text verdict (AnswersLogs AnswersLinks bundle p) answer
-verdict_answer there bundle p (Some fault) = (refused_code bundle.text fault, refl)
-verdict_answer there bundle p None = logs_answer there bundle p
+  by_followed : (bundle : Bundled) → reading bytes ≡ Ok bundle → (p : Listing) → IsValid p → (r : Result (List Followed) Divergence) → follow_all p bundle.fuel bundle.logs ≡ r → (inferred : Inferred) → IsInferredBy p r (Ordered inferred) → (answer : Answer) × AnswersRun p bundle inferred answer
+  by_followed bundle reads p valid (Err divergence) follows inferred is = absurd (cc)
+  by_followed bundle reads p valid (Ok all) follows inferred is = shown_order bundle reads p valid all follows inferred is
 
-program_answer : Laws → HasVerdict → (bundle : Bundled) (s : Result Listing LineFault) → (answer : Answer) × AnswersProgram bundle.text s (AnswersLogs AnswersLinks bundle) answer
-program_answer there each bundle (Err fault) = (refused_text fault, refl)
-program_answer there each bundle (Ok p) =
-    let judgement = each p in
-    let answered = verdict_answer there bundle p judgement.0 in
-    (answered.0, (judgement.0, (judgement.1, answered.1)))
+  -- what logs come to has an answer of `replay`
+  shown_run : (bundle : Bundled) → reading bytes ≡ Ok bundle → (p : Listing) → IsValid p → (inference : Inference) → IsInferred p bundle.fuel bundle.logs inference → (answer : Answer) × AnswersInference (AnswersRun p bundle) inference answer
+  shown_run bundle reads p valid (Diverging divergence) is = (refused (Diverges divergence.thread divergence.place), refl)
+  shown_run bundle reads p valid (Unlinked refusal) is = (refused (unlinked refusal), refl)
+  shown_run bundle reads p valid (Circular cycle) is = (refused (circular cycle), refl)
+  shown_run bundle reads p valid (Ordered inferred) is = by_followed bundle reads p valid (follow_all p bundle.fuel bundle.logs) refl inferred is
 
-infer_answer : Laws → HasVerdict → (r : Result Bundled FormatRefusal) → (answer : Answer) × AnswersBundle AnswersLinks r answer
-infer_answer there each (Err refusal) = (refused (Bundle refusal.kind refusal.offset), refl)
-infer_answer there each (Ok bundle) = program_answer there each bundle (spelled bundle.text)
+  module _ (Shows : Listing → Bundled → Inferred → Answer → Type 0) (shown : (bundle : Bundled) → reading bytes ≡ Ok bundle → (p : Listing) → IsValid p → (inference : Inference) → IsInferred p bundle.fuel bundle.logs inference → (answer : Answer) × AnswersInference (Shows p bundle) inference answer) where
+    logs_answer : (bundle : Bundled) → reading bytes ≡ Ok bundle → (p : Listing) → IsValid p → (answer : Answer) × AnswersLogs Shows bundle p answer
+    logs_answer bundle reads p valid =
+        let found = inference there p (follow_all p bundle.fuel bundle.logs) in
+        let answered = shown bundle reads p valid found.0 found.1 in
+        (answered.0, (found.0, (found.1, answered.1)))
 
-input_answer : Laws → HasVerdict → (command : Command) (bytes : List ℕ) → (command ≡ Replay → ⊥) → (answer : Answer) × AnswersInput command bytes answer
-input_answer there each Check bytes apart = text_answer each bytes (spelled bytes) _
-input_answer there each Follow bytes apart = text_answer each (program_part bytes) (spelled (program_part bytes)) _
-input_answer there each Sim bytes apart = text_answer each (program_part bytes) (spelled (program_part bytes)) _
-input_answer there each Show bytes apart = (shown (reading bytes), refl)
-input_answer there each Upgrade bytes apart = (upgraded (reading bytes), refl)
-input_answer there each Infer bytes apart = infer_answer there each (reading bytes)
-input_answer there each Replay bytes apart = absurd (apart refl)
+    verdict_answer : (bundle : Bundled) → reading bytes ≡ Ok bundle → (p : Listing) (verdict : Option Fault) → IsVerdict p verdict → (answer : Answer) × AnswersVerdict bundle.text verdict (AnswersLogs Shows bundle p) answer
+    verdict_answer bundle reads p (Some fault) judged = (refused_code bundle.text fault, refl)
+    verdict_answer bundle reads p None judged = logs_answer bundle reads p judged
 
-by_length : Laws → HasVerdict → (too_long : Bool) (command : Command) (bytes : List ℕ) → (command ≡ Replay → ⊥) → (answer : Answer) × MatchBool too_long (answer ≡ refused TooLong) (AnswersInput command bytes answer)
-by_length there each true command bytes apart = (refused TooLong, refl)
-by_length there each false command bytes apart = input_answer there each command bytes apart
+    program_answer : (bundle : Bundled) → reading bytes ≡ Ok bundle → (s : Result Listing LineFault) → (answer : Answer) × AnswersProgram bundle.text s (AnswersLogs Shows bundle) answer
+    program_answer bundle reads (Err fault) = (refused_text fault, refl)
+    program_answer bundle reads (Ok p) =
+        let judgement = there.verdict p in
+        let answered = verdict_answer bundle reads p judgement.0 judgement.1 in
+        (answered.0, (judgement.0, (judgement.1, answered.1)))
 
-by_command : Laws → HasVerdict → (named : Option Command) (bytes : List ℕ) → (named ≡ Some Replay → ⊥) → (answer : Answer) × AnswersBy named bytes answer
-by_command there each None bytes apart = (refused Usage, refl)
-by_command there each (Some command) bytes apart = by_length there each (nat_lt INPUT_LIMIT (length bytes)) command bytes (λ e. apart (ap Some e))
+    bundle_answer : (r : Result Bundled FormatRefusal) → reading bytes ≡ r → (answer : Answer) × AnswersBundle Shows r answer
+    bundle_answer (Err refusal) reads = (refused (Bundle refusal.kind refusal.offset), refl)
+    bundle_answer (Ok bundle) reads = program_answer bundle reads (spelled bundle.text)
 
-pub an_answer : Laws → HasVerdict → AnAnswer
-an_answer there each = λ words bytes apart. by_command there each (command_named words) bytes apart
+input_answer : Laws → (command : Command) (bytes : List ℕ) → (answer : Answer) × AnswersInput command bytes answer
+input_answer there Check bytes = text_answer there.verdict bytes (spelled bytes) _
+input_answer there Follow bytes = text_answer there.verdict (program_part bytes) (spelled (program_part bytes)) _
+input_answer there Sim bytes = text_answer there.verdict (program_part bytes) (spelled (program_part bytes)) _
+input_answer there Show bytes = (shown (reading bytes), refl)
+input_answer there Upgrade bytes = (upgraded (reading bytes), refl)
+input_answer there Infer bytes = bundle_answer there bytes AnswersLinks (shown_links there bytes) (reading bytes) refl
+input_answer there Replay bytes = bundle_answer there bytes AnswersRun (shown_run there bytes) (reading bytes) refl
+
+by_length : Laws → (too_long : Bool) (command : Command) (bytes : List ℕ) → (answer : Answer) × MatchBool too_long (answer ≡ refused TooLong) (AnswersInput command bytes answer)
+by_length there true command bytes = (refused TooLong, refl)
+by_length there false command bytes = input_answer there command bytes
+
+by_command : Laws → (named : Option Command) (bytes : List ℕ) → (answer : Answer) × AnswersBy named bytes answer
+by_command there None bytes = (refused Usage, refl)
+by_command there (Some command) bytes = by_length there (nat_lt INPUT_LIMIT (length bytes)) command bytes
+
+pub an_answer : Laws → AnAnswer
+an_answer there = λ words bytes. by_command there (command_named words) bytes

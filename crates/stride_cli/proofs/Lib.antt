@@ -3,6 +3,8 @@ pub mod AnAnswer
 pub mod Bundles
 pub mod Events
 pub mod Followed
+pub mod FollowedRanges
+pub mod Fuels
 pub mod Inferences
 pub mod Lines
 pub mod OneAnswer

@@ -16,13 +16,13 @@ use Rattle.event_order.proofs.Places.{stands_now, stands_still}
 use Rattle.event_order.proofs.Sums.{upto_le, upto_less, upto_most}
 
 -- what holds of each element holds of one
-each : {X : Type 0} (P : X → Type 0) (xs : List X) (i : ℕ) (x : X) → AllByRecursion P xs → slice_get xs i ≡ Some x → P x
+pub each : {X : Type 0} (P : X → Type 0) (xs : List X) (i : ℕ) (x : X) → AllByRecursion P xs → slice_get xs i ≡ Some x → P x
 each P [] i x all is = absurd (cc)
 each P (y ∷ ys) zero x all is = let same : y ≡ x = (cc) in subst P same all.0
 each P (y ∷ ys) (suc i) x all is = each P ys i x all.1 is
 
 -- and of the default past the end
-each_or : {X : Type 0} (P : X → Type 0) (xs : List X) (d : X) (i : ℕ) → P d → AllByRecursion P xs → P (get_or xs i d)
+pub each_or : {X : Type 0} (P : X → Type 0) (xs : List X) (d : X) (i : ℕ) → P d → AllByRecursion P xs → P (get_or xs i d)
 each_or P [] d i end all = end
 each_or P (y ∷ ys) d zero end all = all.0
 each_or P (y ∷ ys) d (suc i) end all = each_or P ys d i end all.1

@@ -12,9 +12,9 @@ use Rattle.stride_cli.specs.Answers.{Answer, IsAnswer, done}
 use Rattle.stride_cli.specs.Reports.{replay_report}
 use Rattle.stride_cli.specs.Words.{command_named}
 
--- words and bytes have an answer; `replay` is left out
+-- words and bytes have an answer
 abbrev pub AnAnswer : Type 0
-AnAnswer = (words : List (List ℕ)) (bytes : List ℕ) → (command_named words ≡ Some Replay → ⊥) → (answer : Answer) × IsAnswer words bytes answer
+AnAnswer = (words : List (List ℕ)) (bytes : List ℕ) → (answer : Answer) × IsAnswer words bytes answer
 
 -- words and bytes have one answer at most
 abbrev pub OneAnswer : Type 0

@@ -37,6 +37,7 @@ pub fn rerun_bundle(alloc: Global, bytes: &[u8]) -> Result<Rerunning, Refusal>
     let bundle = decode(alloc, bytes)?;
     let program = accept(alloc, bundle.text.as_slice())?;
     let rerun = rerun(alloc, &program, bundle.fuel, &bundle.logs)?;
+    // The number isn't wanted here; the call tells that the events are within the limits.
     rerun.traces.threads();
     Ok(Rerunning {
         program,

@@ -1,13 +1,16 @@
 //! Laws of answers, each as the contract of a function that does nothing.
 ghost use Rattle.stride_cli.specs.Laws.{AnAnswer, OneAnswer, ReplaysAreRuns};
 
-/// The words and the bytes of an input have an answer; the command `replay` is left out.
+/// The words and the bytes of an input have an answer.
 pub fn an_answer()
     ensures { AnAnswer }
 {
     stride_isa::some_verdict();
     linkage::links_or_refusal();
     event_order::least_or_cycle();
+    event_order::extensions_are_runs();
+    interleavings::followed_walks();
+    stride_isa::each_cell_starts();
 }
 
 /// The words and the bytes of an input have one answer at most.

@@ -1,10 +1,10 @@
 //! The commands of `stride`, from words and bytes to bytes and a status.
 //!
-//! Owns: the words of the command line (`Words`), the reports (`Reports`), the answer to words and bytes (`Answers`),
-//! and what a status tells of it (`Telling`).
+//! Owns: the words of the command line (`Words`), the reports (`Reports`), what logs come to (`Inferring`), the answer to
+//! words and bytes (`Answers`), what a status tells of it (`Telling`), and how many looks it takes (`Looks`).
 //! The layer above is `main` alone. It may rely on the clauses of `offline`: the status and the report are those of the
 //! answer, of which there is one, a fault is answered only where the device's count rose, and a refusal leaves
-//! the sink as it was.
+//! the sink as it was. What `replay` is done with is a run in which each thread makes exactly the events of its log.
 #![tactic(auto)]
 
 mod commands;
