@@ -6,6 +6,7 @@ pub mod Excluding
 pub mod Firsts
 pub mod Fits
 pub mod Fitting
+pub mod FollowedRanges
 pub mod Greedy
 pub mod Keeping
 pub mod Leading
@@ -14,6 +15,7 @@ pub mod LeastPlaces
 pub mod Making
 pub mod Meeting
 pub mod Meets
+pub mod Nexts
 pub mod OneLeast
 pub mod OneRound
 pub mod Places
@@ -29,4 +31,6 @@ pub mod Starting
 pub mod Suiting
 pub mod Sums
 pub mod Unique
+pub mod Waiters
 pub mod Waiting
+pub mod Whole

@@ -28,7 +28,7 @@ use Rattle.linkage.specs.Refusals.{IsRefused}
 use Rattle.linkage.specs.Sources.{event_at}
 use Rattle.event_order.specs.DirectOrder.{EntersAt, LeavesAt, LinkRows}
 use Rattle.event_order.specs.Extensions.{IsExtension, schedule_of}
-use Rattle.event_order.specs.Laws.{AreInRange, IsRunOf, traces_of}
+use Rattle.event_order.specs.Laws.{AreInRange, RunsAsFollowed, traces_of}
 use Rattle.event_order.proofs.Fits.{World}
 use Rattle.event_order.proofs.Fitting.{extension-fits}
 use Rattle.event_order.proofs.Running.{IsAt, Leads, fitting-leads}
@@ -219,7 +219,7 @@ module _ (p : Listing) (fuel : ℕ) (logs : List (List LogEntry)) (all : List Fo
         ∙ (sym known.left ∙ sym (get_or_from_slice_get (map (λ (f : Followed). f.thread) all) k first.thread d (slice_get-map (λ (f : Followed). f.thread) all k ∙ ap (option_map (λ (f : Followed). f.thread)) first_is)))
 
     -- the extension is a run
-    pub extension-runs : IsRunOf p fuel all (schedule_of places)
+    pub extension-runs : RunsAsFollowed p fuel all (schedule_of places)
     unfolding run_events
     extension-runs = record {
       machine = finished leads.machine;

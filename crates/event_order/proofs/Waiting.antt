@@ -1,14 +1,14 @@
 -- For which slots deeds wait, as one deed more stands.
 use Rattle.std.proofs.Common.{◌≡◌, ◌≢◌, ℕ, ◌+◌, ◌*◌, ◌<◌, ◌≤◌, true, false, List, [], Option, Some, None, length, refl, sym, ◌∙◌, ap, inl, inr, arith, add-one}
-use Rattle.std.specs.Prelude.{ltb, slice_set}
+use Rattle.std.specs.Prelude.{ltb, option_and_then, slice_set}
 use Rattle.std.proofs.lemmas.Bool.{cases_eq, cases_lt, le-ltb, lt-ltb}
 use Rattle.std.proofs.lemmas.List.{get_or_past, get_or-set_same, get_or-set_other, length-set}
 use Rattle.interleavings.specs.declared.traces.Place.{Place}
 use Rattle.event_order.specs.Backs.{Gives}
-use Rattle.event_order.specs.Deeds.{gives_at, size}
-use Rattle.event_order.specs.Fronts.{IsFront, IsRaised, awaited, awaited_of, done_of, is_given, waiting}
+use Rattle.event_order.specs.Deeds.{deed_at, gives_at, gives_of, size}
+use Rattle.event_order.specs.Fronts.{IsFront, IsRaised, awaited, awaited_of, done_of, waiting}
 use Rattle.event_order.specs.Sums.{upto}
-use Rattle.event_order.specs.Tables.{same_slot}
+use Rattle.event_order.specs.Tables.{is_given, same_slot}
 use Rattle.event_order.specs.declared.deed.Deed.{Deed}
 use Rattle.event_order.specs.declared.slot.Slot.{Slot}
 use Rattle.event_order.proofs.Rows.{cases_slot}
@@ -42,6 +42,14 @@ given_once (Some given) slot = elim (cases_slot given slot) [
 ]
 
 module _ (rows : List (List Deed)) where
+  -- a deed that is there fills its slot
+  pub gives_deed : (at : Place) (deed : Deed) → deed_at rows at ≡ Some deed → gives_at rows at ≡ gives_of deed
+  gives_deed at deed there = ap (option_and_then gives_of) there
+
+  -- also where its place is known by another number
+  pub gives_there : (thread n place : ℕ) (deed : Deed) → n ≡ place → deed_at rows (record { thread = thread; place = place }) ≡ Some deed → gives_at rows (record { thread = thread; place = n }) ≡ gives_of deed
+  gives_there thread n place deed same there = gives_deed (record { thread = thread; place = n }) deed (ap (λ k. deed_at rows (record { thread = thread; place = k })) same ∙ there)
+
   -- what stands is not awaited
   pub awaited_stood : (done : ℕ → ℕ) (slot : Slot) (thread i : ℕ) → i < done thread → awaited rows done slot thread i ≡ 0
   awaited_stood done slot thread i small = let test : ltb i (done thread) ≡ true = lt-ltb i (done thread) small in rw test refl

@@ -19,6 +19,35 @@ deed_of (events.Update cell old new number) link = deeds.Write cell number
 deed_of (events.Enter monitor turn) link = deeds.Enter monitor turn
 deed_of (events.Exit monitor turn) link = deeds.Exit monitor turn
 
+-- the number of the cell or the monitor of an event
+abbrev pub owner_of : Event → ℕ
+owner_of (events.Read cell value bound) = cell
+owner_of (events.Write cell value number) = cell
+owner_of (events.Update cell old new number) = cell
+owner_of (events.Enter monitor turn) = monitor
+owner_of (events.Exit monitor turn) = monitor
+
+-- the number of the cell or the monitor of a deed
+abbrev pub owner_in : Deed → ℕ
+owner_in (deeds.Write cell number) = cell
+owner_in (deeds.Read cell number) = cell
+owner_in (deeds.Enter monitor turn) = monitor
+owner_in (deeds.Exit monitor turn) = monitor
+
+-- the number of its write or its turn
+abbrev pub number_in : Deed → ℕ
+number_in (deeds.Write cell number) = number
+number_in (deeds.Read cell number) = number
+number_in (deeds.Enter monitor turn) = turn
+number_in (deeds.Exit monitor turn) = turn
+
+-- which of the rows of its cell or its monitor it fills
+abbrev pub sort_in : Deed → ℕ
+sort_in (deeds.Write cell number) = 0
+sort_in (deeds.Read cell number) = 1
+sort_in (deeds.Enter monitor turn) = 2
+sort_in (deeds.Exit monitor turn) = 2
+
 -- the slot that a deed fills
 abbrev pub gives_of : Deed → Option Slot
 gives_of (deeds.Write cell number) = Some (record { row = 3 * cell; number = number })

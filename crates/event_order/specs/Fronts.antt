@@ -1,14 +1,19 @@
 -- How far the threads are: which deeds stand, for which slots deeds still wait, and what an order has kept on its way.
-use Rattle.std.specs.Prelude.{◌≡◌, ◌≢◌, ℕ, ◌+◌, ◌<◌, ◌≤◌, ltb, Bool, true, false, if◌then◌else◌, List, ◌++◌, Option, Some, None, length, unwrap_or, slice_index_or}
+use Rattle.std.specs.Prelude.{◌≡◌, ◌≢◌, ℕ, ◌+◌, ◌<◌, ◌≤◌, ◌⊎◌, ltb, Bool, true, false, if◌then◌else◌, List, [], ◌++◌, Option, Some, None, length, slice_index_or}
 use Rattle.interleavings.specs.declared.traces.Place.{Place}
 use Rattle.interleavings.specs.TraceLists.{TraceLists}
 use Rattle.event_order.specs.Cycles.{IsStuck}
-use Rattle.event_order.specs.Deeds.{AreDeedsOf, Needs, deed_at, gives_at, size}
+use Rattle.event_order.specs.Deeds.{AreDeedsOf, Needs, NeedsAt, deed_at, gives_at, size}
 use Rattle.event_order.specs.DirectOrder.{LinkRows}
 use Rattle.event_order.specs.Least.{IsLeast, IsLeastFrom}
 use Rattle.event_order.specs.Sums.{upto}
-use Rattle.event_order.specs.Tables.{entry, same_slot}
+use Rattle.event_order.specs.Tables.{is_given}
 use Rattle.event_order.specs.declared.deed.Deed.{Deed}
+use Rattle.event_order.specs.declared.front.Next.{Next}
+use Rattle.event_order.specs.declared.front.Next.TheVariants.{Ready, Waits, Ended}
+use Rattle.event_order.specs.declared.front.ReadyThread.{ReadyThread}
+use Rattle.event_order.specs.declared.front.Waiters.{Waiters}
+use Rattle.event_order.specs.declared.front.Waiters.TheVariants.{Nobody, One, Many}
 use Rattle.event_order.specs.declared.slot.Slot.{Slot}
 
 -- how many deeds of a thread stand
@@ -23,11 +28,6 @@ none_done thread = 0
 abbrev pub stood : (ℕ → ℕ) → Place → Bool
 stood done at = ltb at.place (done at.thread)
 
--- 1 where this slot is the one, or 0
-abbrev pub is_given : Option Slot → Slot → ℕ
-is_given None slot = 0
-is_given (Some given) slot = if same_slot given slot then 1 else 0
-
 -- 1 where the deed at this place of the thread fills the slot and doesn't stand yet, or 0
 abbrev pub awaited : List (List Deed) → (ℕ → ℕ) → Slot → ℕ → ℕ → ℕ
 awaited rows done slot thread i = if ltb i (done thread) then 0 else is_given (gives_at rows (record { thread = thread; place = i })) slot
@@ -39,10 +39,6 @@ awaited_of rows done slot thread = upto (awaited rows done slot thread) (size ro
 -- how many deeds fill the slot and don't stand yet
 abbrev pub waiting : List (List Deed) → (ℕ → ℕ) → Slot → ℕ
 waiting rows done slot = upto (awaited_of rows done slot) (length rows)
-
--- how often a slot is counted in a table
-abbrev pub counted : List (List (Option ℕ)) → Slot → ℕ
-counted table slot = unwrap_or (entry table slot) 0
 
 -- the counts and how many deeds of each thread stand agree
 pub record IsFront (rows : List (List Deed)) (counts : Slot → ℕ) (done : List ℕ) : Type 0 where
@@ -56,10 +52,46 @@ pub record IsReady (rows : List (List Deed)) (counts : Slot → ℕ) (done : ℕ
   pub next : deed_at rows (record { thread = thread; place = done thread }) ≡ Some deed
   pub free : (slot : Slot) → Needs deed slot → counts slot ≡ 0
 
--- the thread is the first whose next deed waits for nothing, or there is none
-abbrev pub IsFirstReady : List (List Deed) → (Slot → ℕ) → (ℕ → ℕ) → Option ℕ → Type 0
+-- the thread is the first whose next deed waits for nothing, and that is its next deed; or there is none
+abbrev pub IsFirstReady : List (List Deed) → (Slot → ℕ) → (ℕ → ℕ) → Option ReadyThread → Type 0
 IsFirstReady rows counts done None = (thread : ℕ) → thread < length rows → IsReady rows counts done thread → ⊥
-IsFirstReady rows counts done (Some thread) = (thread < length rows) × IsReady rows counts done thread × ((other : ℕ) → other < thread → IsReady rows counts done other → ⊥)
+IsFirstReady rows counts done (Some ready) =
+    (ready.thread < length rows) × IsReady rows counts done ready.thread
+    × ((other : ℕ) → other < ready.thread → IsReady rows counts done other → ⊥)
+    × (deed_at rows (record { thread = ready.thread; place = done ready.thread }) ≡ Some ready.deed)
+
+-- the deed at a place waits for this; a slot that is waited for may be the one that has just got empty
+abbrev pub IsNextAt : List (List Deed) → (Slot → ℕ) → Option Slot → Place → Next → Type 0
+IsNextAt rows counts emptied at (Ready deed) = (deed_at rows at ≡ Some deed) × ((slot : Slot) → Needs deed slot → counts slot ≡ 0)
+IsNextAt rows counts emptied at (Waits slot) = NeedsAt rows at slot × ((0 < counts slot) ⊎ (emptied ≡ Some slot))
+IsNextAt rows counts emptied at Ended = deed_at rows at ≡ None
+
+-- what is kept of the next deed of a thread
+abbrev pub next_of : List Next → ℕ → Next
+next_of nexts thread = slice_index_or nexts thread Ended
+
+-- what is kept of the next deed of each thread is so
+pub record AreNexts (rows : List (List Deed)) (counts : Slot → ℕ) (emptied : Option Slot) (done : List ℕ) (nexts : List Next) : Type 0 where
+  pub count : length nexts ≡ length rows
+  pub each : (thread : ℕ) → thread < length rows → IsNextAt rows counts emptied (record { thread = thread; place = done_of done thread }) (next_of nexts thread)
+
+-- the thread is one of those that may wait
+abbrev pub MayWait : Waiters → ℕ → Type 0
+MayWait Nobody other = ⊥
+MayWait (One thread) other = other ≡ thread
+MayWait Many other = Unit {0}
+
+-- which threads may wait for a slot
+abbrev pub waiters_of : List (List Waiters) → Slot → Waiters
+waiters_of waiters slot = slice_index_or (slice_index_or waiters slot.row []) slot.number Many
+
+-- each thread that waits for a slot is one of those that may
+abbrev pub AreWaiters : List Next → List (List Waiters) → Type 0
+AreWaiters nexts waiters = (thread : ℕ) (slot : Slot) → next_of nexts thread ≡ Waits slot → MayWait (waiters_of waiters slot) thread
+
+-- none of the threads before this one is known to be ready
+abbrev pub NoneReady : List Next → ℕ → Type 0
+NoneReady nexts from = (other : ℕ) (deed : Deed) → other < from → next_of nexts other ≡ Ready deed → ⊥
 
 -- one deed more of the thread stands
 pub record IsRaised (old : ℕ → ℕ) (thread : ℕ) (new : ℕ → ℕ) : Type 0 where

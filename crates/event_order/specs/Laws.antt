@@ -1,6 +1,7 @@
 -- What holds of the direct order, whatever the program and the logs are.
 use Rattle.std.specs.Prelude.{◌≡◌, ℕ, ◌≤◌, ◌⊎◌, List, length, map, Ok, Some}
 use Rattle.stride_isa.specs.Listing.{Listing, starts_of}
+use Rattle.stride_isa.specs.Validity.{IsValid}
 use Rattle.sc_machine.specs.Machine.{Machine}
 use Rattle.sc_machine.specs.Schedule.{replayed}
 use Rattle.interleavings.specs.declared.event.Event.{Event}
@@ -12,7 +13,7 @@ use Rattle.interleavings.specs.TraceLists.{TraceLists, events_of, IsInRange}
 use Rattle.linkage.specs.declared.link_error.LinkError.{LinkError}
 use Rattle.linkage.specs.Links.{IsLinked}
 use Rattle.linkage.specs.Refusals.{IsRefused}
-use Rattle.linkage.specs.Sources.{event_at}
+use Rattle.linkage.specs.Sources.{event_at, event_count}
 use Rattle.event_order.specs.Cycles.{AtMost, IsCycle, IsLeft, IsTheCycle, StepsBack}
 use Rattle.event_order.specs.DirectOrder.{LinkRows}
 use Rattle.event_order.specs.Extensions.{IsExtension, schedule_of}
@@ -29,15 +30,24 @@ AreInRange traces = (place : Place) (event : Event) → event_at traces place �
 
 -- the schedule is one of the program, its run leaves each thread as following left it, and each thread makes exactly its
 -- followed events in it
-pub record IsRunOf (p : Listing) (fuel : ℕ) (all : List Followed) (schedule : List ℕ) : Type 0 where
+pub record RunsAsFollowed (p : Listing) (fuel : ℕ) (all : List Followed) (schedule : List ℕ) : Type 0 where
   pub machine : Machine
   pub runs : replayed p fuel schedule ≡ Some machine
   pub threads : machine.threads ≡ map (λ (f : Followed). f.thread) all
   pub events : (t : ℕ) → run_events p fuel schedule t ≡ map plain (events_of (traces_of p all) t)
 
--- any extension of the direct order is a run of the threads that were followed, where nothing about their links is refused
+-- any extension of the direct order is a run of a valid program's threads that were followed, where nothing about their links is
+-- refused
 abbrev pub ExtensionsAreRuns : Type 0
-ExtensionsAreRuns = (p : Listing) (fuel : ℕ) (logs : List (List LogEntry)) (all : List Followed) (links : LinkRows) (places : List Place) → 1 ≤ fuel → follow_all p fuel logs ≡ Ok all → ((refusal : LinkError) → IsRefused (traces_of p all) refusal → ⊥) → AreInRange (traces_of p all) → IsLinked (traces_of p all) links → IsExtension (traces_of p all) links places → IsRunOf p fuel all (schedule_of places)
+ExtensionsAreRuns = (p : Listing) (fuel : ℕ) (logs : List (List LogEntry)) (all : List Followed) (links : LinkRows) (places : List Place) → IsValid p → 1 ≤ fuel → follow_all p fuel logs ≡ Ok all → ((refusal : LinkError) → IsRefused (traces_of p all) refusal → ⊥) → IsLinked (traces_of p all) links → IsExtension (traces_of p all) links places → RunsAsFollowed p fuel all (schedule_of places)
+
+-- the events of a valid program's threads that were followed are of cells and monitors that are there
+abbrev pub FollowedAreInRange : Type 0
+FollowedAreInRange = (p : Listing) (fuel : ℕ) (logs : List (List LogEntry)) (all : List Followed) → IsValid p → 1 ≤ fuel → follow_all p fuel logs ≡ Ok all → AreInRange (traces_of p all)
+
+-- an extension has as many places as there are events
+abbrev pub ExtensionsAreWhole : Type 0
+ExtensionsAreWhole = (traces : TraceLists) (links : LinkRows) (places : List Place) → IsExtension traces links places → length places ≡ event_count traces
 
 -- a cycle and an extension exclude each other
 abbrev pub CyclesExclude : Type 0

@@ -1,5 +1,5 @@
--- What a table keeps for slots.
-use Rattle.std.specs.Prelude.{◌≡◌, ◌==◌, ◌&&◌, Bool, false, List, [], map, Option, Some, None}
+-- What a table keeps for slots, and how often slots are counted.
+use Rattle.std.specs.Prelude.{◌≡◌, ℕ, ◌==◌, ◌&&◌, Bool, false, if◌then◌else◌, List, [], map, Option, Some, None}
 use Rattle.std.specs.Prelude.{Vec, slice_index_or}
 use Rattle.event_order.specs.declared.slot.Slot.{Slot}
 
@@ -19,3 +19,12 @@ entry rows slot = slice_index_or (slice_index_or rows slot.row []) slot.number N
 pub record IsPut {X : Type 0} (old : Slot → Option X) (slot : Slot) (value : X) (new : Slot → Option X) : Type 0 where
   pub here : new slot ≡ Some value
   pub others : (other : Slot) → same_slot slot other ≡ false → new other ≡ old other
+
+-- how often a slot is counted
+abbrev pub counted : List (List ℕ) → Slot → ℕ
+counted rows slot = slice_index_or (slice_index_or rows slot.row []) slot.number 0
+
+-- 1 where this slot is the one, or 0
+abbrev pub is_given : Option Slot → Slot → ℕ
+is_given None slot = 0
+is_given (Some given) slot = if same_slot given slot then 1 else 0

@@ -1,6 +1,6 @@
 //! `Deeds`: what all events are to the order. Each event and its link are looked at once.
 ghost use Rattle.std.specs.Prelude.{◌≡◌, ℕ, ◌+◌, ◌*◌, ◌<◌, ◌≤◌, length, sum_by, IfOk};
-ghost use Rattle.interleavings.specs.TraceLists.{events_of};
+ghost use Rattle.interleavings.specs.TraceLists.{events_of, IsTraces};
 ghost use Rattle.linkage.specs.Sources.{event_count};
 ghost use Rattle.event_order.specs.Deeds.{deed_at, gives_at, size, AreRowsOf, IsFit, IsRowOf};
 
@@ -43,13 +43,15 @@ fn row_of<L: Ledger>(
     steps: &mut Steps<L>,
 ) -> Result<Vec<Deed>, NoMemory>
     requires thread { thread < length traces.now.events }
+    requires traces { IsTraces traces.now }
     requires fit { IsFit traces.now links.now }
     ensures deeds { IfOk result (λ row. IsRowOf traces.now links.now thread (length (events_of traces.now thread)) row.items) }
     ensures few { IfOk result (λ row. length row.items ≤ FUEL_LIMIT) }
     ensures looks { steps.new ≤ steps.old + 2 * length (events_of traces.now thread) }
 {
-    let mut row = Vec::new(alloc);
-    for place in 0..traces.count(thread) {
+    let count = traces.count(thread);
+    let mut row = Vec::with_capacity(alloc, count as usize)?;
+    for place in 0..count {
         let event = traces.at(thread, place, steps);
         let link = links.of(Place { thread, place }, steps);
         row.push(Deed::of(event, link))?;
@@ -92,6 +94,15 @@ impl Deeds {
         ensures small { result ≤ FUEL_LIMIT }
     {
         self.rows[thread as usize].len() as u32
+    }
+
+    /// How many events there are.
+    pub(crate) fn total(&self) -> usize {
+        let mut total: usize = 0;
+        for row in &self.rows {
+            total = total.saturating_add(row.len());
+        }
+        total
     }
 
     /// What the event at a place is to the order, if one is there.

@@ -20,9 +20,10 @@ pub(crate) fn extend(alloc: Global, deeds: &Deeds) -> Result<Extended, NoMemory>
 {
     let mut front = Front::new(alloc, deeds)?;
     let mut order = List::new(alloc);
-    while let Some(thread) = front.first_ready(deeds) {
-        front.stand(alloc, deeds, thread)?;
-        order.push(thread as u8)?;
+    order.reserve(deeds.total())?;
+    while let Some(ready) = front.first_ready(deeds) {
+        front.stand(deeds, ready);
+        order.push(ready.thread as u8)?;
     }
     Ok(Extended {
         done: front.done,

@@ -1,54 +1,95 @@
-//! `Front`: how far the threads of an order are, and for which slots deeds still wait.
-ghost use Rattle.std.specs.Prelude.{◌≡◌, ℕ, ◌+◌, ◌-◌, ◌*◌, ◌<◌, ◌≤◌, ◌↔◌, length, IfOk, OnOk, IsTrue, Some as Found};
-ghost use Rattle.event_order.specs.Deeds.{size};
-ghost use Rattle.event_order.specs.Fronts.{awaited_of, counted, done_of, is_given, none_done, waiting, IsFirstReady, IsFront, IsRaised, IsReady};
+//! `Front`: how far the threads of an order are, for which slots deeds still wait, and what the next deed of each thread waits
+//! for.
+ghost use Rattle.std.specs.Prelude.{◌≡◌, ℕ, ◌+◌, ◌-◌, ◌*◌, ◌<◌, ◌≤◌, ◌↔◌, length, slice_set, IfOk, IsTrue, OnOk, Some as Found, None as Nothing};
+ghost use Rattle.event_order.specs.Deeds.{deed_at, size, Needs};
+ghost use Rattle.event_order.specs.Fronts.{awaited_of, done_of, none_done, next_of, waiters_of, waiting as waits_of, AreNexts, AreWaiters, IsFirstReady, IsFront, IsNextAt, IsRaised, MayWait, NoneReady};
 ghost use Rattle.event_order.specs.Sums.{upto};
-ghost use Rattle.event_order.specs.Tables.{rows_of};
+ghost use Rattle.event_order.specs.Tables.{counted, rows_of};
+ghost use Rattle.event_order.specs.declared.deed.Deed.{Deed as Done};
+ghost use Rattle.event_order.specs.declared.front.Next.{Next as Known};
 ghost use Rattle.event_order.specs.declared.slot.Slot.{Slot as Numbered};
 
+use crate::deed::Deed;
 use crate::deeds::Deeds;
 use crate::slot::Slot;
-use crate::table::Table;
+use crate::table::Counts;
 use interleavings::Place;
 use std::alloc::Global;
 use stride_base::NoMemory;
 use stride_isa::limits::{FUEL_LIMIT, THREAD_LIMIT};
 
-/// How many deeds of each thread stand, and of the others how many fill each slot.
+/// What the next deed of a thread waits for.
+#[derive(Clone, Copy)]
+pub(crate) enum Next {
+    /// For nothing.
+    Ready { deed: Deed },
+    /// For this slot, which other deeds have to fill.
+    Waits { slot: Slot },
+    /// Each deed of the thread stands.
+    Ended,
+}
+
+impl Next {
+    fn waits_for(self, emptied: Slot) -> bool
+        ensures { IsTrue result ↔ (self ≡ Next.Waits emptied) }
+    {
+        match self {
+            Next::Waits { slot } => slot == emptied,
+            Next::Ready { .. } | Next::Ended => false,
+        }
+    }
+}
+
+/// Which threads may wait for a slot. Others don't.
+#[derive(Clone, Copy)]
+pub(crate) enum Waiters {
+    Nobody,
+    One { thread: u8 },
+    Many,
+}
+
+// There are as many as there are numbers in the rows of slots.
+const _: () = prove!(size_of::<Waiters>() == 2);
+
+impl Waiters {
+    fn of(thread: u32) -> Waiters
+        ensures { MayWait result thread }
+    {
+        match u8::try_from(thread) {
+            Ok(thread) => Waiters::One { thread },
+            Err(_) => Waiters::Many,
+        }
+    }
+
+    fn with(self, thread: u32) -> Waiters
+        ensures kept { (other : ℕ) → MayWait self other → MayWait result other }
+        ensures there { MayWait result thread }
+    {
+        match self {
+            Waiters::Nobody => Waiters::of(thread),
+            Waiters::One { thread: known } if u32::from(known) == thread => self,
+            Waiters::One { .. } | Waiters::Many => Waiters::Many,
+        }
+    }
+}
+
+/// A thread whose next deed waits for nothing, and that deed.
+#[derive(Clone, Copy)]
+pub(crate) struct ReadyThread {
+    pub(crate) thread: u32,
+    pub(crate) deed: Deed,
+}
+
+/// How many deeds of each thread stand, of the others how many fill each slot, what is known of the next deed of each thread,
+/// which threads may wait for each slot, and a thread before which none is ready. Only a thread whose deed comes to stand, or that waits for a slot which has got
+/// empty by that, is looked at again.
 #[derive(Drop)]
 pub(crate) struct Front {
-    pub(crate) waiting: Table<u32>,
+    pub(crate) waiting: Counts,
     pub(crate) done: Vec<u32>,
-}
-
-fn count_in(table: &Table<u32>, slot: Slot) -> u32
-    ensures { result ≡ counted (rows_of table.now.rows.items) slot }
-{
-    table.get(slot).unwrap_or(0)
-}
-
-// Counts the slot once more, if there is one.
-fn raise(alloc: Global, table: &mut Table<u32>, slot: Option<Slot>) -> Result<(), NoMemory>
-    requires { (at : Numbered) → slot ≡ Found at → counted (rows_of table.old.rows.items) at < u32.MAX }
-    ensures { OnOk result ((at : Numbered) → counted (rows_of table.new.rows.items) at ≡ counted (rows_of table.old.rows.items) at + is_given slot at) }
-{
-    if let Some(slot) = slot {
-        let count = count_in(table, slot) + 1;
-        table.put(alloc, slot, count)?;
-    }
-    Ok(())
-}
-
-// Counts the slot once less, if there is one.
-fn lower(alloc: Global, table: &mut Table<u32>, slot: Option<Slot>) -> Result<(), NoMemory>
-    requires { (at : Numbered) → slot ≡ Found at → 0 < counted (rows_of table.old.rows.items) at }
-    ensures { OnOk result ((at : Numbered) → counted (rows_of table.old.rows.items) at ≡ counted (rows_of table.new.rows.items) at + is_given slot at) }
-{
-    if let Some(slot) = slot {
-        let count = count_in(table, slot) - 1;
-        table.put(alloc, slot, count)?;
-    }
-    Ok(())
+    pub(crate) next: Vec<Next>,
+    pub(crate) waiters: Vec<Vec<Waiters>>,
+    pub(crate) from: u32,
 }
 
 // Counts the slots that the deeds of a thread fill.
@@ -56,23 +97,23 @@ fn tally_thread(
     alloc: Global,
     deeds: &Deeds,
     thread: u32,
-    table: &mut Table<u32>,
+    table: &mut Counts,
 ) -> Result<(), NoMemory>
     requires thread { thread < length deeds.now }
     requires few { (slot : Numbered) → counted (rows_of table.old.rows.items) slot ≤ (THREAD_LIMIT - 1) * FUEL_LIMIT }
     ensures { OnOk result ((slot : Numbered) → counted (rows_of table.new.rows.items) slot ≡ counted (rows_of table.old.rows.items) slot + awaited_of deeds.now none_done slot thread) }
 {
     for place in 0..deeds.count(thread) {
-        raise(alloc, table, deeds.gives(Place { thread, place }))?;
+        table.raise(alloc, deeds.gives(Place { thread, place }))?;
     }
     Ok(())
 }
 
 // Counts the slots that deeds fill.
-fn tally(alloc: Global, deeds: &Deeds) -> Result<Table<u32>, NoMemory>
-    ensures { IfOk result (λ table. (slot : Numbered) → counted (rows_of table.rows.items) slot ≡ waiting deeds.now none_done slot) }
+fn tally(alloc: Global, deeds: &Deeds) -> Result<Counts, NoMemory>
+    ensures { IfOk result (λ table. (slot : Numbered) → counted (rows_of table.rows.items) slot ≡ waits_of deeds.now none_done slot) }
 {
-    let mut table = Table::new(alloc);
+    let mut table = Counts::new(alloc);
     for thread in 0..deeds.threads() {
         tally_thread(alloc, deeds, thread, &mut table)?;
     }
@@ -90,74 +131,296 @@ fn zeros(alloc: Global, count: u32) -> Result<Vec<u32>, NoMemory>
     Ok(zeros)
 }
 
+// The slot, if others still have to fill it.
+#[inline(always)]
+fn unfilled(waiting: &Counts, slot: Option<Slot>) -> Option<Slot>
+    ensures filled { result ≡ Nothing → (at : Numbered) → slot ≡ Found at → counted (rows_of waiting.now.rows.items) at ≡ 0 }
+    ensures waits { (at : Numbered) → result ≡ Found at → (slot ≡ Found at) × (0 < counted (rows_of waiting.now.rows.items) at) }
+{
+    let slot = slot?;
+    if waiting.of(slot) == 0 {
+        None
+    } else {
+        Some(slot)
+    }
+}
+
+// A slot that the deed needs and that others still have to fill.
+#[inline(always)]
+fn missing(waiting: &Counts, deed: Deed) -> Option<Slot>
+    ensures filled { result ≡ Nothing → (at : Numbered) → Needs deed at → counted (rows_of waiting.now.rows.items) at ≡ 0 }
+    ensures waits { (at : Numbered) → result ≡ Found at → Needs deed at × (0 < counted (rows_of waiting.now.rows.items) at) }
+{
+    match deed {
+        Deed::Write { .. } => match unfilled(waiting, deed.needs()) {
+            Some(slot) => Some(slot),
+            None => unfilled(waiting, deed.needs_too()),
+        },
+        Deed::Read { .. } | Deed::Enter { .. } => unfilled(waiting, deed.needs()),
+        Deed::Exit { .. } => None,
+    }
+}
+
+// What the deed at a place waits for, if one is there.
+#[inline(always)]
+fn judge(waiting: &Counts, deeds: &Deeds, at: Place) -> Next
+    ensures { IsNextAt deeds.now (counted (rows_of waiting.now.rows.items)) Nothing at result }
+{
+    match deeds.at(at) {
+        Some(deed) => match missing(waiting, deed) {
+            Some(slot) => Next::Waits { slot },
+            None => Next::Ready { deed },
+        },
+        None => Next::Ended,
+    }
+}
+
+fn first_nexts(
+    alloc: Global,
+    waiters: &mut Vec<Vec<Waiters>>,
+    waiting: &Counts,
+    deeds: &Deeds,
+    done: &[u32],
+) -> Result<Vec<Next>, NoMemory>
+    requires { length done.now ≡ length deeds.now }
+    ensures nexts { IfOk result (λ next. AreNexts deeds.now (counted (rows_of waiting.now.rows.items)) Nothing done.now next.items) }
+    ensures waiters { IfOk result (λ next. AreWaiters next.items (rows_of waiters.new.items)) }
+{
+    let mut next = Vec::new(alloc);
+    for thread in 0..deeds.threads() {
+        let place = done[thread as usize];
+        let now = judge(waiting, deeds, Place { thread, place });
+        note(waiters, thread, now);
+        next.push(now)?;
+    }
+    Ok(next)
+}
+
+// Room for the waiters of each slot that is counted.
+fn no_waiters(alloc: Global, waiting: &Counts) -> Result<Vec<Vec<Waiters>>, NoMemory> {
+    let mut waiters = Vec::with_capacity(alloc, waiting.rows.len())?;
+    for row in &waiting.rows {
+        waiters.push(vec![in alloc; Waiters::Nobody; row.len()]?)?;
+    }
+    Ok(waiters)
+}
+
+fn waiters_at(waiters: &[Vec<Waiters>], slot: Slot) -> Waiters
+    ensures { result ≡ waiters_of (rows_of waiters.now) slot }
+{
+    match waiters.get(slot.row as usize) {
+        Some(row) => row
+            .get(slot.number as usize)
+            .copied()
+            .unwrap_or(Waiters::Many),
+        None => Waiters::Many,
+    }
+}
+
+// Keeps that this thread may wait for the slot.
+fn note_slot(waiters: &mut Vec<Vec<Waiters>>, thread: u32, slot: Slot)
+    ensures kept { (at : Numbered) (other : ℕ) → MayWait (waiters_of (rows_of waiters.old.items) at) other → MayWait (waiters_of (rows_of waiters.new.items) at) other }
+    ensures noted { MayWait (waiters_of (rows_of waiters.new.items) slot) thread }
+{
+    if (slot.row as usize) < waiters.len() {
+        let row = &mut waiters[slot.row as usize];
+        if (slot.number as usize) < row.len() {
+            let known = row[slot.number as usize];
+            row[slot.number as usize] = known.with(thread);
+        }
+    }
+}
+
+// Keeps that this thread may wait for what its next deed waits for.
+fn note(waiters: &mut Vec<Vec<Waiters>>, thread: u32, next: Next)
+    ensures kept { (at : Numbered) (other : ℕ) → MayWait (waiters_of (rows_of waiters.old.items) at) other → MayWait (waiters_of (rows_of waiters.new.items) at) other }
+    ensures noted { (slot : Numbered) → next ≡ Next.Waits slot → MayWait (waiters_of (rows_of waiters.new.items) slot) thread }
+{
+    if let Next::Waits { slot } = next {
+        note_slot(waiters, thread, slot);
+    }
+}
+
+// What the next deed of a thread waits for, where this was known before a slot got empty.
+fn renewed(known: Next, waiting: &Counts, deeds: &Deeds, at: Place, emptied: Slot) -> Next
+    ensures { IsNextAt deeds.now (counted (rows_of waiting.now.rows.items)) (Found emptied) at known → IsNextAt deeds.now (counted (rows_of waiting.now.rows.items)) Nothing at result }
+{
+    if known.waits_for(emptied) {
+        judge(waiting, deeds, at)
+    } else {
+        known
+    }
+}
+
+// A thread before which none is ready, where this thread maybe is by now.
+fn lowest(from: u32, thread: u32, now: Next) -> u32
+    ensures low { result ≤ from }
+    ensures ready { (deed : Done) → now ≡ Next.Ready deed → result ≤ thread }
+{
+    match now {
+        Next::Ready { .. } if thread < from => thread,
+        Next::Ready { .. } | Next::Waits { .. } | Next::Ended => from,
+    }
+}
+
+// Looks again at all threads.
+fn wake_all(
+    next: &mut Vec<Next>,
+    waiters: &mut Vec<Vec<Waiters>>,
+    waiting: &Counts,
+    deeds: &Deeds,
+    done: &[u32],
+    emptied: Slot,
+    from: u32,
+) -> u32
+    requires threads { length done.now ≡ length deeds.now }
+    requires nexts { AreNexts deeds.now (counted (rows_of waiting.now.rows.items)) (Found emptied) done.now next.old.items }
+    requires waiters { AreWaiters next.old.items (rows_of waiters.old.items) }
+    requires low { NoneReady next.old.items from }
+    ensures nexts { AreNexts deeds.now (counted (rows_of waiting.now.rows.items)) Nothing done.now next.new.items }
+    ensures waiters { AreWaiters next.new.items (rows_of waiters.new.items) }
+    ensures low { NoneReady next.new.items result }
+{
+    let mut from = from;
+    for thread in 0..deeds.threads() {
+        let place = done[thread as usize];
+        let known = next[thread as usize];
+        let now = renewed(known, waiting, deeds, Place { thread, place }, emptied);
+        next[thread as usize] = now;
+        note(waiters, thread, now);
+        from = lowest(from, thread, now);
+    }
+    from
+}
+
+// Looks again at the only thread that may wait for the slot.
+fn wake_one(
+    next: &mut Vec<Next>,
+    waiters: &mut Vec<Vec<Waiters>>,
+    waiting: &Counts,
+    deeds: &Deeds,
+    at: Place,
+    emptied: Slot,
+    from: u32,
+) -> u32
+    requires there { at.thread < length next.old.items }
+    requires waiters { AreWaiters next.old.items (rows_of waiters.old.items) }
+    requires low { NoneReady next.old.items from }
+    ensures next { (now : Known) × (next.new.items ≡ slice_set next.old.items at.thread now) × (IsNextAt deeds.now (counted (rows_of waiting.now.rows.items)) (Found emptied) at (next_of next.old.items at.thread) → IsNextAt deeds.now (counted (rows_of waiting.now.rows.items)) Nothing at now) }
+    ensures waiters { AreWaiters next.new.items (rows_of waiters.new.items) }
+    ensures low { NoneReady next.new.items result }
+{
+    let thread = at.thread;
+    let known = next[thread as usize];
+    let now = renewed(known, waiting, deeds, at, emptied);
+    next[thread as usize] = now;
+    note(waiters, thread, now);
+    lowest(from, thread, now)
+}
+
+// Looks again at the threads that wait for a slot which is empty by now.
+fn wake(
+    next: &mut Vec<Next>,
+    waiters: &mut Vec<Vec<Waiters>>,
+    waiting: &Counts,
+    deeds: &Deeds,
+    done: &[u32],
+    emptied: Slot,
+    from: u32,
+) -> u32
+    requires threads { length done.now ≡ length deeds.now }
+    requires nexts { AreNexts deeds.now (counted (rows_of waiting.now.rows.items)) (Found emptied) done.now next.old.items }
+    requires waiters { AreWaiters next.old.items (rows_of waiters.old.items) }
+    requires low { NoneReady next.old.items from }
+    ensures nexts { AreNexts deeds.now (counted (rows_of waiting.now.rows.items)) Nothing done.now next.new.items }
+    ensures waiters { AreWaiters next.new.items (rows_of waiters.new.items) }
+    ensures low { NoneReady next.new.items result }
+{
+    match waiters_at(waiters, emptied) {
+        Waiters::Nobody => from,
+        Waiters::One { thread } if u32::from(thread) < deeds.threads() => {
+            let thread = u32::from(thread);
+            let place = done[thread as usize];
+            let at = Place { thread, place };
+            wake_one(next, waiters, waiting, deeds, at, emptied, from)
+        }
+        Waiters::One { .. } | Waiters::Many => {
+            wake_all(next, waiters, waiting, deeds, done, emptied, from)
+        }
+    }
+}
+
 impl Front {
     /// The front at which no deed stands.
     pub(crate) fn new(alloc: Global, deeds: &Deeds) -> Result<Front, NoMemory>
         ensures front { IfOk result (λ front. IsFront deeds.now (counted (rows_of front.waiting.rows.items)) front.done.items) }
+        ensures nexts { IfOk result (λ front. AreNexts deeds.now (counted (rows_of front.waiting.rows.items)) Nothing front.done.items front.next.items) }
+        ensures waiters { IfOk result (λ front. AreWaiters front.next.items (rows_of front.waiters.items)) }
+        ensures low { IfOk result (λ front. NoneReady front.next.items front.from) }
         ensures none { IfOk result (λ front. (thread : ℕ) → done_of front.done.items thread ≡ 0) }
         ensures few { (thread : ℕ) → size deeds.now thread ≤ FUEL_LIMIT }
         ensures small { length deeds.now ≤ THREAD_LIMIT }
     {
         let threads = deeds.threads();
+        let waiting = tally(alloc, deeds)?;
+        let done = zeros(alloc, threads)?;
+        let mut waiters = no_waiters(alloc, &waiting)?;
+        let next = first_nexts(alloc, &mut waiters, &waiting, deeds, &done)?;
         Ok(Front {
-            waiting: tally(alloc, deeds)?,
-            done: zeros(alloc, threads)?,
+            waiting,
+            done,
+            next,
+            waiters,
+            from: 0,
         })
     }
 
-    fn is_filled(&self, slot: Option<Slot>) -> bool
-        ensures { IsTrue result ↔ ((at : Numbered) → slot ≡ Found at → counted (rows_of self.now.waiting.rows.items) at ≡ 0) }
-    {
-        match slot {
-            Some(slot) => count_in(&self.waiting, slot) == 0,
-            None => true,
-        }
-    }
-
-    fn is_ready(&self, deeds: &Deeds, thread: u32) -> bool
-        requires { thread < length self.now.done.items }
-        ensures { IsTrue result ↔ IsReady deeds.now (counted (rows_of self.now.waiting.rows.items)) (done_of self.now.done.items) thread }
-    {
-        let place = self.done[thread as usize];
-        match deeds.at(Place { thread, place }) {
-            Some(deed) => self.is_filled(deed.needs()) && self.is_filled(deed.needs_too()),
-            None => false,
-        }
-    }
-
     /// The first thread whose next deed waits for nothing.
-    pub(crate) fn first_ready(&self, deeds: &Deeds) -> Option<u32>
-        requires { IsFront deeds.now (counted (rows_of self.now.waiting.rows.items)) self.now.done.items }
+    pub(crate) fn first_ready(&self, deeds: &Deeds) -> Option<ReadyThread>
+        requires nexts { AreNexts deeds.now (counted (rows_of self.now.waiting.rows.items)) Nothing self.now.done.items self.now.next.items }
+        requires low { NoneReady self.now.next.items self.now.from }
         ensures { IsFirstReady deeds.now (counted (rows_of self.now.waiting.rows.items)) (done_of self.now.done.items) result }
     {
-        for thread in 0..deeds.threads() {
-            if self.is_ready(deeds, thread) {
-                return Some(thread);
+        for thread in self.from..deeds.threads() {
+            if let Next::Ready { deed } = self.next[thread as usize] {
+                return Some(ReadyThread { thread, deed });
             }
         }
         None
     }
 
     /// Lets the next deed of a thread stand.
-    pub(crate) fn stand(
-        &mut self,
-        alloc: Global,
-        deeds: &Deeds,
-        thread: u32,
-    ) -> Result<(), NoMemory>
+    pub(crate) fn stand(&mut self, deeds: &Deeds, ready: ReadyThread)
         requires front { IsFront deeds.now (counted (rows_of self.old.waiting.rows.items)) self.old.done.items }
-        requires next { done_of self.old.done.items thread < size deeds.now thread }
-        requires few { size deeds.now thread ≤ FUEL_LIMIT }
-        ensures front { OnOk result (IsFront deeds.now (counted (rows_of self.new.waiting.rows.items)) self.new.done.items) }
-        ensures raised { OnOk result (IsRaised (done_of self.old.done.items) thread (done_of self.new.done.items)) }
+        requires nexts { AreNexts deeds.now (counted (rows_of self.old.waiting.rows.items)) Nothing self.old.done.items self.old.next.items }
+        requires waiters { AreWaiters self.old.next.items (rows_of self.old.waiters.items) }
+        requires low { NoneReady self.old.next.items ready.thread }
+        requires deed { deed_at deeds.now (record { thread = ready.thread; place = done_of self.old.done.items ready.thread }) ≡ Found ready.deed }
+        requires few { size deeds.now ready.thread ≤ FUEL_LIMIT }
+        ensures front { IsFront deeds.now (counted (rows_of self.new.waiting.rows.items)) self.new.done.items }
+        ensures nexts { AreNexts deeds.now (counted (rows_of self.new.waiting.rows.items)) Nothing self.new.done.items self.new.next.items }
+        ensures waiters { AreWaiters self.new.next.items (rows_of self.new.waiters.items) }
+        ensures low { NoneReady self.new.next.items self.new.from }
+        ensures raised { IsRaised (done_of self.old.done.items) ready.thread (done_of self.new.done.items) }
     {
-        let place = self.done[thread as usize];
-        lower(
-            alloc,
-            &mut self.waiting,
-            deeds.gives(Place { thread, place }),
-        )?;
-        self.done[thread as usize] = place + 1;
-        Ok(())
+        let thread = ready.thread;
+        let emptied = self.waiting.lower(ready.deed.gives());
+        let place = self.done[thread as usize] + 1;
+        self.done[thread as usize] = place;
+        let now = judge(&self.waiting, deeds, Place { thread, place });
+        self.next[thread as usize] = now;
+        note(&mut self.waiters, thread, now);
+        self.from = thread;
+        if let Some(slot) = emptied {
+            self.from = wake(
+                &mut self.next,
+                &mut self.waiters,
+                &self.waiting,
+                deeds,
+                &self.done,
+                slot,
+                thread,
+            );
+        }
     }
 }

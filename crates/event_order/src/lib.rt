@@ -24,6 +24,7 @@ mod walking;
 
 pub use arranging::arrange;
 pub use laws::{
-    cycles_exclude, extensions_are_runs, followed_is_told, least_or_cycle, one_cycle, one_least,
+    cycles_exclude, extensions_are_runs, extensions_are_whole, followed_are_in_range,
+    followed_is_told, least_or_cycle, one_cycle, one_least,
 };
 pub use order_error::OrderError;

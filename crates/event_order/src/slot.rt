@@ -2,8 +2,8 @@
 
 /// A number of a row. Each cell has a row for its writes and one for the reads that are linked to them, and each monitor has one
 /// for its exits.
-#[derive(Clone, Copy)]
+#[derive(Clone, Copy, PartialEq, Eq)]
 pub(crate) struct Slot {
-    pub(crate) row: u64,
+    pub(crate) row: u32,
     pub(crate) number: u32,
 }

@@ -1,6 +1,6 @@
-//! `Table`: what is kept for slots.
-ghost use Rattle.std.specs.Prelude.{◌≡◌, ℕ, ◌<◌, ◌≤◌, [], length, slice_index_or, OnOk};
-ghost use Rattle.event_order.specs.Tables.{entry, rows_of, IsPut};
+//! `Table`: what is kept for slots. `Counts`: how often slots are counted.
+ghost use Rattle.std.specs.Prelude.{◌≡◌, ℕ, ◌+◌, ◌<◌, ◌≤◌, [], length, slice_index, slice_index_or, OnOk, Some as Found};
+ghost use Rattle.event_order.specs.Tables.{counted, entry, is_given, rows_of, IsPut};
 ghost use Rattle.event_order.specs.declared.slot.Slot.{Slot};
 
 use crate::slot::Slot;
@@ -31,11 +31,11 @@ impl<T: Copy> Table<T> {
         *row.get(slot.number as usize)?
     }
 
-    fn add_rows(&mut self, alloc: Global, row: u64) -> Result<(), NoMemory>
+    fn add_rows(&mut self, alloc: Global, row: u32) -> Result<(), NoMemory>
         ensures there { OnOk result (row < length self.new.rows.items) }
         ensures same { (slot : Slot) → entry (rows_of self.new.rows.items) slot ≡ entry (rows_of self.old.rows.items) slot }
     {
-        while self.rows.len() as u64 <= row {
+        while self.rows.len() <= row as usize {
             self.rows.push(Vec::new(alloc))?;
         }
         Ok(())
@@ -60,5 +60,80 @@ impl<T: Copy> Table<T> {
         Self::add_numbers(row, slot.number)?;
         row[slot.number as usize] = Some(value);
         Ok(())
+    }
+}
+
+/// How often slots are counted. A row takes memory up to the greatest of its numbers that was ever counted.
+#[derive(Drop)]
+pub(crate) struct Counts {
+    pub(crate) rows: Vec<Vec<u32>>,
+}
+
+impl Counts {
+    /// No slot is counted. It takes no memory.
+    pub(crate) fn new(alloc: Global) -> Counts
+        ensures { result.rows.items ≡ [] }
+    {
+        Counts {
+            rows: Vec::new(alloc),
+        }
+    }
+
+    /// How often a slot is counted.
+    pub(crate) fn of(&self, slot: Slot) -> u32
+        ensures { result ≡ counted (rows_of self.now.rows.items) slot }
+    {
+        match self.rows.get(slot.row as usize) {
+            Some(row) => row.get(slot.number as usize).copied().unwrap_or(0),
+            None => 0,
+        }
+    }
+
+    fn add_rows(&mut self, alloc: Global, row: u32) -> Result<(), NoMemory>
+        ensures there { OnOk result (row < length self.new.rows.items) }
+        ensures same { (slot : Slot) → counted (rows_of self.new.rows.items) slot ≡ counted (rows_of self.old.rows.items) slot }
+    {
+        while self.rows.len() <= row as usize {
+            self.rows.push(Vec::new(alloc))?;
+        }
+        Ok(())
+    }
+
+    fn add_numbers(row: &mut Vec<u32>, number: u32) -> Result<(), NoMemory>
+        ensures there { OnOk result (number < length row.new.items) }
+        ensures same { (i : ℕ) → slice_index row.new.items i ≡ slice_index row.old.items i }
+    {
+        while row.len() <= number as usize {
+            row.push(0)?;
+        }
+        Ok(())
+    }
+
+    /// Counts a slot once more, if there is one.
+    pub(crate) fn raise(&mut self, alloc: Global, slot: Option<Slot>) -> Result<(), NoMemory>
+        requires { (at : Slot) → slot ≡ Found at → counted (rows_of self.old.rows.items) at < u32.MAX }
+        ensures { OnOk result ((at : Slot) → counted (rows_of self.new.rows.items) at ≡ counted (rows_of self.old.rows.items) at + is_given slot at) }
+    {
+        if let Some(slot) = slot {
+            self.add_rows(alloc, slot.row)?;
+            let row = &mut self.rows[slot.row as usize];
+            Self::add_numbers(row, slot.number)?;
+            let count = row[slot.number as usize] + 1;
+            row[slot.number as usize] = count;
+        }
+        Ok(())
+    }
+
+    /// Counts a slot once less, if there is one. The answer is that slot where it is counted no more.
+    pub(crate) fn lower(&mut self, slot: Option<Slot>) -> Option<Slot>
+        requires { (at : Slot) → slot ≡ Found at → 0 < counted (rows_of self.old.rows.items) at }
+        ensures counts { (at : Slot) → counted (rows_of self.old.rows.items) at ≡ counted (rows_of self.new.rows.items) at + is_given slot at }
+        ensures emptied { (at : Slot) → slot ≡ Found at → counted (rows_of self.new.rows.items) at ≡ 0 → result ≡ Found at }
+    {
+        let slot = slot?;
+        let row = &mut self.rows[slot.row as usize];
+        let count = row[slot.number as usize] - 1;
+        row[slot.number as usize] = count;
+        if count == 0 { Some(slot) } else { None }
     }
 }

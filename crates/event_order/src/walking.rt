@@ -25,7 +25,7 @@ fn mark_of(at: Place) -> Slot
     ensures number { result.number ≡ at.place }
 {
     Slot {
-        row: u64::from(at.thread),
+        row: at.thread,
         number: at.place,
     }
 }

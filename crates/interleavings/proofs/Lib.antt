@@ -4,6 +4,7 @@ pub mod Beginning
 pub mod Begins
 pub mod Ending
 pub mod Examples
+pub mod EventRows
 pub mod Exits
 pub mod ExitsEnd
 pub mod FewLogs

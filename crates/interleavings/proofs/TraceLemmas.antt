@@ -1,11 +1,10 @@
 -- Lists of events and of starting values.
-use Rattle.std.proofs.Common.{◌≡◌, ◌∙◌, ℕ, ◌+◌, ◌<◌, zero, suc, List, [], ◌∷◌, ◌++◌, length, get_or, set, map, take, replicate, refl, sym, ap, subst, arith}
+use Rattle.std.proofs.Common.{◌≡◌, ℕ, ◌+◌, ◌<◌, zero, suc, List, [], ◌∷◌, ◌++◌, length, get_or, set, take, replicate, sym, subst, arith}
 use Rattle.std.specs.List.{AllByRecursion}
-use Rattle.std.proofs.lemmas.List.{length-map, map-set, replicate-append-replicate, take_more, take_all}
+use Rattle.std.proofs.lemmas.List.{replicate-append-replicate, take_more, take_all}
 use Rattle.stride_isa.specs.Listing.{cell_count, starts_of}
 use Rattle.stride_isa.specs.Laws.{EachCellStarts}
 use Rattle.stride_isa.specs.declared.decl.Decl.{Decl}
-use Rattle.interleavings.specs.declared.event.Event.{Event}
 
 -- one more of a row of equal items
 pub replicate_more : {X : Type 0} (n : ℕ) (x : X) → replicate n x ++ x ∷ [] ≡ replicate (n + 1) x
@@ -42,19 +41,6 @@ pub each_more : {X : Type 0} (P : X → Type 0) (xs : List X) (x : X) → AllByR
 each_more P [] x h p = (p, tt)
 each_more P (y ∷ xs) x h p = (h.0, each_more P xs x h.1 p)
 
--- an element of a row of lists, read through their items
-pub at_map : {V X : Type 0} (f : V → List X) (vs : List V) (i : ℕ) (d : V) → i < length vs → get_or (map f vs) i [] ≡ f (get_or vs i d)
-at_map f [] i d below = absurd (omega arith)
-at_map f (v ∷ vs) zero d below = refl
-at_map f (v ∷ vs) (suc i) d below = at_map f vs i d (omega arith)
-
--- one more item in one of the lists, written in place
-pub pushed_at : {V X : Type 0} (f : V → List X) (vs : List V) (i : ℕ) (old new : V) (x : X) → i < length vs → old ≡ get_or vs i old → f new ≡ f old ++ x ∷ [] → map f (set vs i new) ≡ set (map f vs) i (get_or (map f vs) i [] ++ x ∷ [])
-pushed_at f vs i old new x below is grown =
-    map-set f vs i new ∙ ap (set (map f vs) i) (grown ∙ ap (λ items. items ++ x ∷ []) (ap f is ∙ sym (at_map f vs i old below)))
-
--- what holds of each list of events holds of one that is read in place
-pub each_in : {V : Type 0} (P : List Event → Type 0) (f : V → List Event) (vs : List V) (i : ℕ) (v : V) → i < length vs → v ≡ get_or vs i v → AllByRecursion P (map f vs) → P (f v)
-each_in P f vs i v below is all =
-    let here : f v ≡ get_or (map f vs) i [] = ap f is ∙ sym (at_map f vs i v below) in
-    subst P (sym here) (each_at P (map f vs) i [] (simp length-map below) all)
+-- what holds of each item holds of the one that is read in place
+pub each_read : {X : Type 0} (P : X → Type 0) (xs : List X) (i : ℕ) (x : X) → i < length xs → x ≡ get_or xs i x → AllByRecursion P xs → P x
+each_read P xs i x below is all = subst P (sym is) (each_at P xs i x below all)

@@ -7,6 +7,7 @@ pub mod EventStep
 pub mod Events
 pub mod Following
 pub mod History
+pub mod KeptEvents
 pub mod Laws
 pub mod Layout
 pub mod Recording

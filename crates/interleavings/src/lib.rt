@@ -12,6 +12,7 @@ mod core_state;
 mod driven;
 mod driven_thread;
 mod event;
+mod event_row;
 mod kind;
 mod laws;
 mod layout;

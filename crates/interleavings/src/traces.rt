@@ -1,10 +1,12 @@
 //! `Traces`: the events of each thread.
-ghost use Rattle.std.specs.Prelude.{◌≡◌, ◌+◌, ◌<◌, ◌≤◌, [], ◌∷◌, ◌++◌, length, map, replicate, slice_index, slice_set, IfOk, OnOk, OnErr};
+ghost use Rattle.std.specs.Prelude.{◌≡◌, ◌+◌, ◌<◌, ◌≤◌, [], ◌∷◌, ◌++◌, length, replicate, slice_index, slice_set, IfOk, OnOk, OnErr};
 ghost use Rattle.std.specs.List.{slice_index_or};
 ghost use Rattle.stride_isa.specs.Listing.{starts_of};
+ghost use Rattle.interleavings.specs.KeptEvents.{IsNarrow};
 ghost use Rattle.interleavings.specs.TraceLists.{IsInRange, IsTraces, events_of, no_events as none, with_event_of};
 
 use crate::event::Event;
+use crate::event_row::EventRow;
 use std::alloc::Global;
 use std::marker::Model;
 use std::sync::ledger::Ledger;
@@ -23,31 +25,30 @@ pub struct Place {
 /// An event is seen by `at` alone, which counts the look.
 #[derive(Drop)]
 pub struct Traces {
-    events: Vec<Vec<Event>>,
+    events: Vec<EventRow>,
     starts: Vec<u64>,
     monitors: u32,
 }
 
 impl Model for Traces {
-    ghost use Rattle.std.specs.Prelude.{map};
     ghost use Rattle.stride_isa.specs.Listing.{starts_of};
     ghost use Rattle.interleavings.specs.TraceLists.{TraceLists, IsTraces};
 
     ghost Value = { TraceLists };
 
-    ghost view = { λ t. record { events = map (λ events. events.items) t.events.items; starts = t.starts.items; monitors = t.monitors } };
+    ghost view = { λ t. record { events = t.events.items; starts = t.starts.items; monitors = t.monitors } };
 
-    ghost invariant = { λ t. IsTraces (record { events = map (λ events. events.items) t.events.items; starts = t.starts.items; monitors = t.monitors }) };
+    ghost invariant = { λ t. IsTraces (record { events = t.events.items; starts = t.starts.items; monitors = t.monitors }) };
 }
 
-fn empty_lists(alloc: Global, count: u32) -> Result<Vec<Vec<Event>>, NoMemory>
-    ensures { IfOk result (λ lists. map (λ events. events.items) lists.items ≡ replicate count []) }
+fn empty_rows(alloc: Global, count: u32) -> Result<Vec<EventRow>, NoMemory>
+    ensures { IfOk result (λ rows. rows.items ≡ replicate count []) }
 {
-    let mut lists = Vec::new(alloc);
+    let mut rows = Vec::new(alloc);
     for _ in 0..count {
-        lists.push(Vec::new(alloc))?;
+        rows.push(EventRow::new(alloc))?;
     }
-    Ok(lists)
+    Ok(rows)
 }
 
 fn starting_values(alloc: Global, program: &Checked) -> Result<Vec<u64>, NoMemory>
@@ -61,14 +62,13 @@ fn starting_values(alloc: Global, program: &Checked) -> Result<Vec<u64>, NoMemor
     Ok(starts)
 }
 
-fn push_to(lists: &mut Vec<Vec<Event>>, at: u32, event: Event) -> Result<(), NoMemory>
-    requires { at < length lists.old.items }
-    ensures ok { OnOk result (map (λ events. events.items) lists.new.items
-        ≡ slice_set (map (λ events. events.items) lists.old.items) at (slice_index_or (map (λ events. events.items) lists.old.items) at [] ++ event ∷ [])) }
-    ensures err { OnErr result (map (λ events. events.items) lists.new.items ≡ map (λ events. events.items) lists.old.items) }
+fn push_to(rows: &mut Vec<EventRow>, at: u32, event: Event) -> Result<(), NoMemory>
+    requires there { at < length rows.old.items }
+    requires narrow { IsNarrow event }
+    ensures ok { OnOk result (rows.new.items ≡ slice_set rows.old.items at (slice_index_or rows.old.items at [] ++ event ∷ [])) }
+    ensures err { OnErr result (rows.new.items ≡ rows.old.items) }
 {
-    lists[at as usize].push(event)?;
-    Ok(())
+    rows[at as usize].push(event)
 }
 
 impl Traces {
@@ -79,7 +79,7 @@ impl Traces {
         program.facts();
         each_cell_starts();
         Ok(Traces {
-            events: empty_lists(alloc, program.threads())?,
+            events: empty_rows(alloc, program.threads())?,
             starts: starting_values(alloc, program)?,
             monitors: program.monitors(),
         })
@@ -148,6 +148,6 @@ impl Traces {
         ensures look { steps.new ≡ steps.old + 1 }
     {
         steps.tick();
-        self.events[thread as usize][place as usize]
+        self.events[thread as usize].at(place as usize)
     }
 }

@@ -7,6 +7,7 @@ use Rattle.interleavings.specs.declared.traces.Place.{Place}
 use Rattle.linkage.specs.declared.numbered.Numbered.{Numbered}
 use Rattle.linkage.specs.AllOf.{IsAllOf, IsGivenTwice, StartsGiven}
 use Rattle.linkage.specs.Numbers.{IsItemAt, IsTwice}
+use Rattle.linkage.proofs.Growing.{IsSame, IsMore, twice_kept}
 
 module _ {X : Type 0} where
   -- what is read from a list with one item more was there, or is that item
@@ -54,23 +55,12 @@ module _ {V : Type 0} where
       no_item i o n (v, is) = cc
 
   module _ (given given' : Option Place → Numbered V → Type 0) (items : List (Numbered V)) (all : IsAllOf given items) (old : (source : Option Place) (item : Numbered V) → given source item → given' source item) where
-    keep_given : (o n : ℕ) → IsGivenTwice given o n → IsGivenTwice given' o n
-    keep_given o n t = record {
-      one = t.one;
-      other = t.other;
-      differ = t.differ;
-      one_value = t.one_value;
-      one_gives = old t.one _ t.one_gives;
-      other_value = t.other_value;
-      other_gives = old t.other _ t.other_gives;
-    }
-
     -- nothing more is given
     pub all_of_same : ((source : Option Place) (item : Numbered V) → given' source item → given source item) → IsAllOf given' items
     all_of_same back = record {
       sound = λ i item is. let s = all.sound i item is in (s.0, old s.0 item s.1);
       complete = λ source item gives. all.complete source item (back source item gives);
-      twice = λ o n t. keep_given o n (all.twice o n t);
+      twice = λ o n t. twice_kept given given' old o n (all.twice o n t);
       once = λ o n t. all.once o n (record {
         one = t.one;
         other = t.other;
@@ -104,7 +94,7 @@ module _ {V : Type 0} where
           elim (get_pushed items x b t.other t.at_other.1) [
             | inl both ↦
                 elim (get_pushed items x a t.one t.at_one.1) [
-                  | inl was ↦ keep_given o n (all.twice o n (record { one = t.one; other = t.other; apart = t.apart; at_one = (t.at_one.0, was); at_other = (t.at_other.0, both) }))
+                  | inl was ↦ twice_kept given given' old o n (all.twice o n (record { one = t.one; other = t.other; apart = t.apart; at_one = (t.at_one.0, was); at_other = (t.at_other.0, both) }))
                   | inr one ↦ absurd (let inside = slice_get_within items t.other b both in omega (arith, t.apart, one.0))
                 ]
             | inr last ↦
@@ -155,14 +145,21 @@ module _ {V : Type 0} where
       pub all_of_more : IsAllOf given' (items ++ x ∷ [])
       all_of_more = record { sound = more_sound; complete = more_complete; twice = more_twice; once = more_once }
 
+  -- the same is given
+  pub listed_same : (given given' : Option Place → Numbered V → Type 0) (items : List (Numbered V)) → IsSame given given' → IsAllOf given items → IsAllOf given' items
+  listed_same given given' items same all = all_of_same given given' items all same.kept same.back
+
+  -- one item more is given
+  pub listed_more : (given given' : Option Place → Numbered V → Type 0) (items : List (Numbered V)) (new : Option Place) (x : Numbered V) → IsMore given given' new x → IsAllOf given items → IsAllOf given' (items ++ x ∷ [])
+  listed_more given given' items new x more all = all_of_more given given' items all more.kept new x more.here more.news more.fresh
+
   -- what one more owner is given from the start
-  pub starts_more : (given : Option Place → Numbered V → Type 0) (owner : ℕ) (items : List (Numbered V)) (x : Numbered V) → x.owner ≡ owner → given None x → ((item : Numbered V) → given None item → item.owner ≡ owner → item ≡ x) → IsAllOf (StartsGiven given owner) items → IsAllOf (StartsGiven given (owner + 1)) (items ++ x ∷ [])
-  starts_more given owner items x own gives only all =
-      all_of_more (StartsGiven given owner) (StartsGiven given (owner + 1)) items all old None x (gives, omega (arith, own)) news (λ item before same. omega (arith, before.1, same, own))
+  pub start_more : (given : Option Place → Numbered V → Type 0) (owner : ℕ) (x : Numbered V) → x.owner ≡ owner → given None x → ((item : Numbered V) → given None item → item.owner ≡ owner → item ≡ x) → IsMore (StartsGiven given owner) (StartsGiven given (owner + 1)) None x
+  start_more given owner x own gives only = record { kept = kept; here = (gives, omega (arith, own)); news = news; fresh = λ item before same. omega (arith, before.1, same, own) }
     where
-      old : (source : Option Place) (item : Numbered V) → StartsGiven given owner source item → StartsGiven given (owner + 1) source item
-      old None item (is, below) = (is, omega arith)
-      old (Some place) item is = is
+      kept : (source : Option Place) (item : Numbered V) → StartsGiven given owner source item → StartsGiven given (owner + 1) source item
+      kept None item (is, below) = (is, omega arith)
+      kept (Some place) item is = is
 
       news : (source : Option Place) (item : Numbered V) → StartsGiven given (owner + 1) source item → StartsGiven given owner source item ⊎ ((source ≡ None) × (item ≡ x))
       news None item (is, below) =
@@ -172,9 +169,13 @@ module _ {V : Type 0} where
           ]
       news (Some place) item is = absurd is
 
+  pub starts_more : (given : Option Place → Numbered V → Type 0) (owner : ℕ) (items : List (Numbered V)) (x : Numbered V) → x.owner ≡ owner → given None x → ((item : Numbered V) → given None item → item.owner ≡ owner → item ≡ x) → IsAllOf (StartsGiven given owner) items → IsAllOf (StartsGiven given (owner + 1)) (items ++ x ∷ [])
+  starts_more given owner items x own gives only all = listed_more (StartsGiven given owner) (StartsGiven given (owner + 1)) items None x (start_more given owner x own gives only) all
+
+  -- before the first owner nothing is given
+  pub nothing_started : (given : Option Place → Numbered V → Type 0) (source : Option Place) (item : Numbered V) → StartsGiven given 0 source item → ⊥
+  nothing_started given None item (is, below) = omega arith
+  nothing_started given (Some place) item is = is
+
   pub starts_none : (given : Option Place → Numbered V → Type 0) → IsAllOf (StartsGiven given 0) []
-  starts_none given = all_of_none (StartsGiven given 0) nothing
-    where
-      nothing : (source : Option Place) (item : Numbered V) → StartsGiven given 0 source item → ⊥
-      nothing None item (is, below) = omega arith
-      nothing (Some place) item is = is
+  starts_none given = all_of_none (StartsGiven given 0) (nothing_started given)

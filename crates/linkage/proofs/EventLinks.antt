@@ -1,5 +1,5 @@
 -- What one event is linked to.
-use Rattle.std.proofs.Common.{◌≡◌, ◌∙◌, ℕ, ◌+◌, ◌-◌, ◌<◌, ◌≤◌, inl, inr, length, get_or, refl, sym, ap, subst, arith, nat_eq}
+use Rattle.std.proofs.Common.{◌≡◌, ◌∙◌, ℕ, ◌+◌, ◌-◌, ◌<◌, ◌≤◌, inl, inr, length, refl, sym, ap, subst, arith, nat_eq}
 use Rattle.std.specs.Prelude.{Some, slice_get, slice_index}
 use Rattle.std.specs.Option.{option_and_then}
 use Rattle.std.proofs.lemmas.Bool.{cases_Bool, eqb-false, eqb-true}
@@ -8,13 +8,13 @@ use Rattle.interleavings.specs.declared.event.Event.TheVariants.{Read, Update}
 use Rattle.interleavings.specs.declared.traces.Place.{Place}
 use Rattle.interleavings.specs.Events.{write_of, read_of, bound_of}
 use Rattle.interleavings.specs.TraceLists.{TraceLists}
-use Rattle.linkage.specs.declared.numbered.Numbered.{Numbered}
 use Rattle.linkage.specs.declared.row.Row.{Row}
 use Rattle.linkage.specs.Checking.{IsRow}
 use Rattle.linkage.specs.Links.{IsLink}
 use Rattle.linkage.specs.Misfitting.{IsOldStored, IsLinkedAt, IsUnread}
 use Rattle.linkage.specs.Refusals.{IsBoundTooLarge, IsUnequal, IsMismatch}
 use Rattle.linkage.specs.Sources.{event_at, Stored, IsReadAt, IsUpdateAt}
+use Rattle.linkage.specs.Spans.{place_of}
 use Rattle.linkage.proofs.Finds.{stored_held}
 use Rattle.linkage.proofs.Frontier.{gives_none, gives_one}
 use Rattle.linkage.proofs.Parts.{same_read, same_write}
@@ -36,7 +36,7 @@ module _ (traces : TraceLists) (at : Place) (cell value bound : ℕ) (there : ev
   read_no_mismatch m = gives_none traces at (Read cell value bound) there write_of _ refl m.updates.made
 
   module _ (row : Row) (is : IsRow traces row) (own : cell < length traces.starts) where
-    pub too_large : slice_index row.greatest.items cell < bound → IsBoundTooLarge traces at
+    pub too_large : slice_index row.spans.greatest.items cell < bound → IsBoundTooLarge traces at
     too_large over = record {
       cell = cell;
       value = value;
@@ -45,12 +45,12 @@ module _ (traces : TraceLists) (at : Place) (cell value bound : ℕ) (there : ev
       above = λ number stored s. let t = is.stored cell number stored s in omega (arith, over, t.1.0);
     }
 
-    pub not_too_large : bound ≤ slice_index row.greatest.items cell → IsBoundTooLarge traces at → ⊥
+    pub not_too_large : bound ≤ slice_index row.spans.greatest.items cell → IsBoundTooLarge traces at → ⊥
     not_too_large under b =
         let e = one_read b.cell b.value b.bound b.reads in
-        let top = is.there cell (slice_index row.greatest.items cell) own (omega arith) in
-        let P : ℕ → Type 0 = λ c. Stored traces c (slice_index row.greatest.items cell) top.0 in
-        omega (arith, under, e.2, b.above (slice_index row.greatest.items cell) top.0 (subst P (sym e.0) top.2))
+        let top = is.there cell (slice_index row.spans.greatest.items cell) own (omega arith) in
+        let P : ℕ → Type 0 = λ c. Stored traces c (slice_index row.spans.greatest.items cell) top.0 in
+        omega (arith, under, e.2, b.above (slice_index row.spans.greatest.items cell) top.0 (subst P (sym e.0) top.2))
 
   pub linked_here : (number : ℕ) → IsLink traces cell value bound number → IsLinkedAt traces at number × (IsUnequal traces at → ⊥)
   linked_here number link = (
@@ -92,16 +92,14 @@ module _ (traces : TraceLists) (at : Place) (cell old new number : ℕ) (there :
       m.none below one (subst P pair stored)
 
 -- what the row tells of the write before an update
-pub old_stored : (traces : TraceLists) (row : Row) (cell old number place : ℕ) (item : Numbered ℕ) → IsRow traces row → cell < length traces.starts → number ≤ slice_index row.greatest.items cell → 0 < number → place ≡ slice_index row.firsts.items cell + (number - 1) → item ≡ get_or row.writes.items place item → IsOldStored traces cell old number (nat_eq item.value old)
-old_stored traces row cell old number place item is own most some where_is read =
+pub old_stored : (traces : TraceLists) (row : Row) (cell old number place read : ℕ) → IsRow traces row → cell < length traces.starts → number ≤ slice_index row.spans.greatest.items cell → 0 < number → place ≡ place_of row.spans cell (number - 1) → read ≡ slice_index row.values.items place → IsOldStored traces cell old number (nat_eq read old)
+old_stored traces row cell old number place read is own most some where_is here =
     let t = is.there cell (number - 1) own (omega arith) in
-    let x : Numbered ℕ = record { owner = cell; number = number - 1; value = t.0 } in
-    let at : slice_get row.writes.items place ≡ Some x = ap (slice_get row.writes.items) where_is ∙ t.1.1 in
-    let one : item ≡ x = read ∙ get_or_from_slice_get row.writes.items place x item at in
-    let value : item.value ≡ t.0 = ap (λ (y : Numbered ℕ). y.value) one in
-    elim (cases_Bool (nat_eq item.value old)) [
+    let at : slice_get row.values.items place ≡ Some t.0 = ap (slice_get row.values.items) where_is ∙ t.1.1 in
+    let value : read ≡ t.0 = here ∙ get_or_from_slice_get row.values.items place t.0 0 at in
+    elim (cases_Bool (nat_eq read old)) [
       | inl equal ↦ (
-          let same : item.value ≡ old = eqb-true item.value old equal in
+          let same : read ≡ old = eqb-true read old equal in
           let P : ℕ → Type 0 = λ v. Stored traces cell (number - 1) v in
           rw equal (number - 1, omega arith, subst P (sym value ∙ same) t.2))
       | inr apart ↦
@@ -110,7 +108,7 @@ old_stored traces row cell old number place item is own most some where_is read 
           let b : below ≡ number - 1 = omega arith in
           let Q : ℕ → Type 0 = λ n. Stored traces cell n old in
           let h = stored_held traces row is cell (number - 1) old (subst Q b stored) in
-          let both : Some h.0 ≡ Some x = sym h.1 ∙ t.1.1 in
-          let same : h.0 ≡ x = cc in
-          eqb-false item.value old apart (value ∙ (ap (λ (y : Numbered ℕ). y.value) (sym same) ∙ h.2)))
+          let both : Some t.0 ≡ Some old = sym t.1.1 ∙ h in
+          let same : t.0 ≡ old = cc in
+          eqb-false read old apart (value ∙ same))
     ]

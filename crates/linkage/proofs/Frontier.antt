@@ -1,5 +1,5 @@
--- All writes and turns before a place, as the place goes on.
-use Rattle.std.proofs.Common.{◌≡◌, ◌∙◌, ℕ, ◌+◌, ◌<◌, ◌⊎◌, inl, inr, List, [], ◌∷◌, ◌++◌, length, refl, sym, ap, subst, arith}
+-- What is given before a place, as the place goes on.
+use Rattle.std.proofs.Common.{◌≡◌, ◌∙◌, ℕ, ◌+◌, ◌<◌, ◌⊎◌, inl, inr, [], length, refl, sym, ap, subst, arith}
 use Rattle.std.specs.Prelude.{Option, Some, None}
 use Rattle.std.specs.Option.{option_and_then}
 use Rattle.std.proofs.Math.Nat.{eq-or-lt_of_le}
@@ -10,10 +10,10 @@ use Rattle.interleavings.specs.declared.event.Event.{Event}
 use Rattle.interleavings.specs.declared.traces.Place.{Place}
 use Rattle.interleavings.specs.TraceLists.{TraceLists, events_of}
 use Rattle.linkage.specs.declared.numbered.Numbered.{Numbered}
-use Rattle.linkage.specs.AllOf.{IsAllOf, StartsGiven}
+use Rattle.linkage.specs.AllOf.{StartsGiven}
 use Rattle.linkage.specs.GatherShows.{place_at, IsBefore, UpTo}
 use Rattle.linkage.specs.Sources.{event_at}
-use Rattle.linkage.proofs.AllOfLists.{all_of_more, all_of_same}
+use Rattle.linkage.proofs.Growing.{IsSame, IsMore}
 
 -- places before the next one of a thread
 pub further : (place : Place) (t i : ℕ) → IsBefore place (place_at t i) → IsBefore place (place_at t (i + 1))
@@ -36,18 +36,17 @@ last_or_before place t i before =
 not_before_itself : (t i : ℕ) → IsBefore (place_at t i) (place_at t i) → ⊥
 not_before_itself t i before = elim before [ inl less ↦ omega arith | inr same ↦ omega (arith, same.1) ]
 
-nothing_first : (place : Place) → IsBefore place (place_at 0 0) → ⊥
+pub nothing_first : (place : Place) → IsBefore place (place_at 0 0) → ⊥
 nothing_first place before = elim before [ inl less ↦ omega (arith, less) | inr same ↦ omega (arith, same.1) ]
 
-module _ {V : Type 0} (given : Option Place → Numbered V → Type 0) (items : List (Numbered V)) where
+module _ {V : Type 0} (given : Option Place → Numbered V → Type 0) where
   further_given : (t i : ℕ) (source : Option Place) (item : Numbered V) → UpTo (place_at t i) given source item → UpTo (place_at t (i + 1)) given source item
   further_given t i None item gives = gives
   further_given t i (Some place) item gives = (gives.0, further place t i gives.1)
 
   -- an event that gives nothing
-  pub pass_place : (t i : ℕ) → ((item : Numbered V) → given (Some (place_at t i)) item → ⊥) → IsAllOf (UpTo (place_at t i) given) items → IsAllOf (UpTo (place_at t (i + 1)) given) items
-  pass_place t i nothing all =
-      all_of_same (UpTo (place_at t i) given) (UpTo (place_at t (i + 1)) given) items all (further_given t i) back
+  pub passed : (t i : ℕ) → ((item : Numbered V) → given (Some (place_at t i)) item → ⊥) → IsSame (UpTo (place_at t i) given) (UpTo (place_at t (i + 1)) given)
+  passed t i nothing = record { kept = further_given t i; back = back }
     where
       back : (source : Option Place) (item : Numbered V) → UpTo (place_at t (i + 1)) given source item → UpTo (place_at t i) given source item
       back None item gives = gives
@@ -58,10 +57,13 @@ module _ {V : Type 0} (given : Option Place → Numbered V → Type 0) (items : 
           ]
 
   -- an event that gives one item
-  pub take_place : (t i : ℕ) (x : Numbered V) → given (Some (place_at t i)) x → ((item : Numbered V) → given (Some (place_at t i)) item → item ≡ x) → IsAllOf (UpTo (place_at t i) given) items → IsAllOf (UpTo (place_at t (i + 1)) given) (items ++ x ∷ [])
-  take_place t i x here only all =
-      all_of_more (UpTo (place_at t i) given) (UpTo (place_at t (i + 1)) given) items all (further_given t i) (Some (place_at t i)) x (here, inr (refl, omega arith)) news
-      (λ item gives own. not_before_itself t i gives.1)
+  pub taken : (t i : ℕ) (x : Numbered V) → given (Some (place_at t i)) x → ((item : Numbered V) → given (Some (place_at t i)) item → item ≡ x) → IsMore (UpTo (place_at t i) given) (UpTo (place_at t (i + 1)) given) (Some (place_at t i)) x
+  taken t i x here only = record {
+    kept = further_given t i;
+    here = (here, inr (refl, omega arith));
+    news = news;
+    fresh = λ item gives own. not_before_itself t i gives.1;
+  }
     where
       news : (source : Option Place) (item : Numbered V) → UpTo (place_at t (i + 1)) given source item → UpTo (place_at t i) given source item ⊎ ((source ≡ Some (place_at t i)) × (item ≡ x))
       news None item gives = inl gives
@@ -72,13 +74,12 @@ module _ {V : Type 0} (given : Option Place → Numbered V → Type 0) (items : 
           ]
 
   -- the end of a thread is the beginning of the next
-  pub next_thread : (t count : ℕ) → ((place : Place) (item : Numbered V) → given (Some place) item → place.thread ≡ t → place.place < count) → IsAllOf (UpTo (place_at t count) given) items → IsAllOf (UpTo (place_at (t + 1) 0) given) items
-  next_thread t count inside all =
-      all_of_same (UpTo (place_at t count) given) (UpTo (place_at (t + 1) 0) given) items all old back
+  pub thread_passed : (t count : ℕ) → ((place : Place) (item : Numbered V) → given (Some place) item → place.thread ≡ t → place.place < count) → IsSame (UpTo (place_at t count) given) (UpTo (place_at (t + 1) 0) given)
+  thread_passed t count inside = record { kept = kept; back = back }
     where
-      old : (source : Option Place) (item : Numbered V) → UpTo (place_at t count) given source item → UpTo (place_at (t + 1) 0) given source item
-      old None item gives = gives
-      old (Some place) item gives = (gives.0, elim gives.1 [ inl less ↦ inl (omega (arith, less)) | inr same ↦ inl (omega (arith, same.0)) ])
+      kept : (source : Option Place) (item : Numbered V) → UpTo (place_at t count) given source item → UpTo (place_at (t + 1) 0) given source item
+      kept None item gives = gives
+      kept (Some place) item gives = (gives.0, elim gives.1 [ inl less ↦ inl (omega (arith, less)) | inr same ↦ inl (omega (arith, same.0)) ])
 
       back : (source : Option Place) (item : Numbered V) → UpTo (place_at (t + 1) 0) given source item → UpTo (place_at t count) given source item
       back None item gives = gives
@@ -90,25 +91,26 @@ module _ {V : Type 0} (given : Option Place → Numbered V → Type 0) (items : 
         ],
       )
 
-  -- after the last thread everything is before
-  pub all_reached : (threads : ℕ) → ((place : Place) (item : Numbered V) → given (Some place) item → place.thread < threads) → IsAllOf (UpTo (place_at threads 0) given) items → IsAllOf given items
-  all_reached threads inside all = all_of_same (UpTo (place_at threads 0) given) given items all old back
-    where
-      old : (source : Option Place) (item : Numbered V) → UpTo (place_at threads 0) given source item → given source item
-      old None item gives = gives
-      old (Some place) item gives = gives.0
+  -- what is given before a place is given
+  pub given_before : (place : Place) (source : Option Place) (item : Numbered V) → UpTo place given source item → given source item
+  given_before place None item gives = gives
+  given_before place (Some source) item gives = gives.0
 
+  -- after the last thread everything is before
+  pub all_passed : (threads : ℕ) → ((place : Place) (item : Numbered V) → given (Some place) item → place.thread < threads) → IsSame (UpTo (place_at threads 0) given) given
+  all_passed threads inside = record { kept = given_before (place_at threads 0); back = back }
+    where
       back : (source : Option Place) (item : Numbered V) → given source item → UpTo (place_at threads 0) given source item
       back None item gives = gives
       back (Some place) item gives = (gives, inl (inside place item gives))
 
   -- before the first event there is what is given from the start
-  pub from_start : (first : Option Place → Numbered V → Type 0) (owners : ℕ) → ((item : Numbered V) → first None item → item.owner < owners → given None item) → ((item : Numbered V) → given None item → first None item × (item.owner < owners)) → IsAllOf (StartsGiven first owners) items → IsAllOf (UpTo (place_at 0 0) given) items
-  from_start first owners to from all = all_of_same (StartsGiven first owners) (UpTo (place_at 0 0) given) items all old back
+  pub started : (first : Option Place → Numbered V → Type 0) (owners : ℕ) → ((item : Numbered V) → first None item → item.owner < owners → given None item) → ((item : Numbered V) → given None item → first None item × (item.owner < owners)) → IsSame (StartsGiven first owners) (UpTo (place_at 0 0) given)
+  started first owners to from = record { kept = kept; back = back }
     where
-      old : (source : Option Place) (item : Numbered V) → StartsGiven first owners source item → UpTo (place_at 0 0) given source item
-      old None item gives = to item gives.0 gives.1
-      old (Some place) item gives = absurd gives
+      kept : (source : Option Place) (item : Numbered V) → StartsGiven first owners source item → UpTo (place_at 0 0) given source item
+      kept None item gives = to item gives.0 gives.1
+      kept (Some place) item gives = absurd gives
 
       back : (source : Option Place) (item : Numbered V) → UpTo (place_at 0 0) given source item → StartsGiven first owners source item
       back None item gives = from item gives

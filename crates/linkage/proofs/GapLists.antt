@@ -1,12 +1,11 @@
 -- Gaps in lists of items that ascend by owner and number.
-use Rattle.std.proofs.Common.{◌≡◌, ◌∙◌, ℕ, zero, suc, ◌+◌, ◌-◌, ◌<◌, ◌≤◌, ◌≢◌, ◌⊎◌, inl, inr, List, length, get_or, set, replicate, max, refl, sym, subst, arith, add-one, get_or-set_same, get_or-set_other}
+use Rattle.std.proofs.Common.{◌≡◌, ◌∙◌, ℕ, zero, suc, ◌+◌, ◌-◌, ◌<◌, ◌≤◌, ◌⊎◌, inl, inr, List, length, get_or, sym, subst, arith, add-one}
 use Rattle.std.specs.Prelude.{Option, Some, None, slice_get, slice_index}
 use Rattle.std.proofs.Math.Nat.{eq-or-lt_of_le}
-use Rattle.std.proofs.lemmas.Bool.{cases_eq, cases_lt}
-use Rattle.std.proofs.lemmas.List.{length-set}
+use Rattle.std.proofs.lemmas.Bool.{cases_lt}
 use Rattle.std.proofs.lemmas.Option.{slice_get_past}
 use Rattle.linkage.specs.declared.numbered.Numbered.{Numbered}
-use Rattle.linkage.specs.Numbers.{NotAfter, Earlier, IsItemAt, IsOrdered, AreStarted, AreGreatestBelow, IsGap, IsFirstGap, IsFollowed, AreFollowedBelow}
+use Rattle.linkage.specs.Numbers.{NotAfter, Earlier, IsItemAt, IsOrdered, AreStarted, IsGap, IsFirstGap, IsFollowed, AreFollowedBelow}
 use Rattle.linkage.proofs.NumberedLists.{one_item, item_there, item_inside}
 
 -- a pair that is not after another and is not equal to it is earlier
@@ -188,57 +187,3 @@ module _ {V : Type 0} (items : List (Numbered V)) (greatest : List ℕ) (ordered
             rw same (subst P e here more))
         | inr less ↦ before k other less there more
       ]
-
-pub zeros_at : (count o : ℕ) → slice_index (replicate count 0) o ≡ 0
-zeros_at zero o = refl
-zeros_at (suc count) zero = refl
-zeros_at (suc count) (suc o) = zeros_at count o
-
--- no items are above the numbers at first
-pub greatest_start : {V : Type 0} (items : List (Numbered V)) (owners : ℕ) (greatest : List ℕ) → AreStarted items owners → length greatest ≡ owners → ((o : ℕ) → slice_index greatest o ≡ 0) → AreGreatestBelow items owners 0 greatest
-greatest_start items owners greatest started count zeros = record {
-  count = count;
-  above = λ i o n below. absurd (omega arith);
-  there = λ o owned. let z = started o owned in (z.0, rw zeros z.1);
-}
-
--- the greatest number of an item's owner is raised to the item's where that is greater
-pub greatest_step : {V : Type 0} (items : List (Numbered V)) (owners i : ℕ) (greatest : List ℕ) (item : Numbered V) → AreGreatestBelow items owners i greatest → slice_get items i ≡ Some item → item.owner < owners → AreGreatestBelow items owners (i + 1) (set greatest item.owner (max (slice_index greatest item.owner) item.number))
-greatest_step {V} items owners i greatest item so_far is owned =
-    let inside : item.owner < length greatest = omega (arith, so_far.count) in
-    let old = slice_index greatest item.owner in
-    let raised = set greatest item.owner (max old item.number) in
-    let here : slice_index raised item.owner ≡ max old item.number = get_or-set_same greatest item.owner (max old item.number) 0 inside in
-    let apart : (o : ℕ) → o ≢ item.owner → slice_index raised o ≡ slice_index greatest o = λ o differ. get_or-set_other greatest item.owner o (max old item.number) 0 differ in
-    let before : (k o n : ℕ) → k < i → IsItemAt items k o n → n ≤ slice_index raised o = λ k o n less there.
-    elim (cases_eq o item.owner) [
-      | inl same ↦ (
-          let P : ℕ → Type 0 = λ t. n ≤ slice_index greatest t in
-          let Q : ℕ → Type 0 = λ t. n ≤ slice_index raised t in
-          subst Q (sym same) (omega (arith, here, subst P same (so_far.above k o n less there))))
-      | inr differ ↦ omega (arith, apart o differ, so_far.above k o n less there)
-    ] in
-    let reached : (o : ℕ) → o < owners → (k : ℕ) × IsItemAt items k o (slice_index raised o) = λ o own.
-    elim (cases_eq o item.owner) [
-      | inl same ↦ (
-          let Q : ℕ → Type 0 = λ t. (k : ℕ) × IsItemAt items k t (slice_index raised t) in
-          subst Q (sym same)
-          (elim (cases_lt old item.number) [
-            | inl less ↦ (let e : item.number ≡ slice_index raised item.owner = omega (arith, here) in (i, item_same items i item.owner item.number item.owner (slice_index raised item.owner) (item.value, is) refl e))
-            | inr most ↦ (let e : old ≡ slice_index raised item.owner = omega (arith, here) in let t = so_far.there item.owner owned in (t.0, item_same items t.0 item.owner old item.owner (slice_index raised item.owner) t.1 refl e))
-          ]))
-      | inr differ ↦ (let t = so_far.there o own in (t.0, item_same items t.0 o (slice_index greatest o) o (slice_index raised o) t.1 refl (sym (apart o differ))))
-    ] in
-    record {
-      count = length-set greatest item.owner (max old item.number) ∙ so_far.count;
-      above = λ k o n below there.
-          elim (eq-or-lt_of_le {n = k} {m = i} (omega arith)) [
-            | inl same ↦ (
-                let P : ℕ → Type 0 = λ t. IsItemAt items t o n in
-                let e = one_item items i o n item.owner item.number (subst P same there) (item.value, is) in
-                let Q : ℕ → Type 0 = λ t. n ≤ slice_index raised t in
-                subst Q (sym e.0) (omega (arith, here, e.1)))
-            | inr less ↦ before k o n less there
-          ];
-      there = reached;
-    }

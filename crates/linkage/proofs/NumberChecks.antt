@@ -1,7 +1,7 @@
 -- What the checks of numbers and turns find is what is refused.
 use Rattle.std.proofs.Common.{◌≡◌, ℕ, List, length, get_or, refl, arith}
 use Rattle.std.specs.Prelude.{Some, None, slice_get, slice_index}
-use Rattle.std.proofs.lemmas.Option.{slice_get-get_or, slice_get_within}
+use Rattle.std.proofs.lemmas.Option.{slice_get-get_or}
 use Rattle.interleavings.specs.TraceLists.{TraceLists}
 use Rattle.linkage.specs.declared.link_error.LinkError.{LinkError}
 use Rattle.linkage.specs.declared.link_error.LinkError.TheVariants.{TwiceWritten, WriteGap, TwiceTurned, TurnGap}
@@ -73,7 +73,7 @@ module _ (traces : TraceLists) (items : List (Numbered ℕ)) (all : IsAllOf (Wri
         let inside = owned at.0 cell gap.greater (gap.greater_value, at.1) in
         record {
           owned = omega (arith, inside, are.count);
-          below = omega (arith, gap.above, are.above at.0 cell gap.greater (slice_get_within items at.0 _ at.1) (gap.greater_value, at.1));
+          below = omega (arith, gap.above, are.above at.0 cell gap.greater (gap.greater_value, at.1));
           missing = λ i there. gap.missing there.0 (listed_stored i _ there.1);
         }
 
@@ -149,7 +149,7 @@ module _ (traces : TraceLists) (entries exits : List (Numbered (Unit {0}))) (ent
         let inside = owned at.0 monitor gap.greater (tt, at.1) in
         record {
           owned = omega (arith, inside, are.count);
-          below = omega (arith, gap.above, are.above at.0 monitor gap.greater (slice_get_within entries at.0 _ at.1) (tt, at.1));
+          below = omega (arith, gap.above, are.above at.0 monitor gap.greater (tt, at.1));
           missing = λ i there. let s = left.sound i _ there.1 in gap.missing s.0 s.1;
         }
 

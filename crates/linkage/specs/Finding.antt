@@ -1,19 +1,19 @@
 -- What contracts see of finding the write of a read.
-use Rattle.std.specs.Prelude.{◌≡◌, ℕ, ◌+◌, ◌*◌, ◌<◌, ◌≤◌, ◌↔◌, List, Option, Some, None, length, slice_get, slice_index, Contains}
+use Rattle.std.specs.Prelude.{◌≡◌, ℕ, ◌+◌, ◌*◌, ◌<◌, ◌≤◌, ◌↔◌, List, Option, Some, None, length, slice_get, Contains}
 use Rattle.std.specs.Option.{IfSome}
 use Rattle.stride_base.specs.Ascending.{Triple}
 use Rattle.stride_isa.specs.Limits.{cell_limit, fuel_limit, thread_limit}
 use Rattle.interleavings.specs.TraceLists.{TraceLists}
 use Rattle.linkage.specs.declared.finder.Finder.{Finder}
-use Rattle.linkage.specs.declared.numbered.Numbered.{Numbered}
 use Rattle.linkage.specs.declared.row.Row.{Row}
 use Rattle.linkage.specs.Checking.{IsRow}
 use Rattle.linkage.specs.Links.{IsLink}
 use Rattle.linkage.specs.Sources.{Stored}
+use Rattle.linkage.specs.Spans.{place_of}
 
 -- the place of the row where the write of a cell with this number stands holds this value
 abbrev pub Holds : Row → ℕ → ℕ → ℕ → Type 0
-Holds row cell number value = (item : Numbered ℕ) × (slice_get row.writes.items (slice_index row.firsts.items cell + number) ≡ Some item) × (item.value ≡ value)
+Holds row cell number value = slice_get row.values.items (place_of row.spans cell number) ≡ Some value
 
 -- no number within the bound and less than `below` under it holds the value
 abbrev pub IsNearBelow : Row → ℕ → ℕ → ℕ → ℕ → Type 0

@@ -1,6 +1,6 @@
 -- What contracts see of all writes and turns while they are gathered.
-use Rattle.std.specs.Prelude.{◌≡◌, ℕ, ◌+◌, ◌*◌, ◌≤◌, [], ◌∷◌, ◌++◌, Option, Some, None, length}
-use Rattle.stride_isa.specs.Limits.{cell_limit, fuel_limit, monitor_limit, thread_limit}
+use Rattle.std.specs.Prelude.{◌≡◌, ℕ, ◌+◌, ◌≤◌, [], ◌∷◌, ◌++◌, Option, Some, None, length, sum_by, take}
+use Rattle.stride_isa.specs.Limits.{cell_limit, monitor_limit}
 use Rattle.interleavings.specs.declared.event.Event.{Event}
 use Rattle.interleavings.specs.declared.event.Event.TheVariants.{Read, Write, Update, Enter, Exit}
 use Rattle.interleavings.specs.declared.traces.Place.{Place}
@@ -9,7 +9,7 @@ use Rattle.linkage.specs.declared.gathered.Gathered.{Gathered}
 use Rattle.linkage.specs.declared.numbered.Numbered.{Numbered}
 use Rattle.linkage.specs.AllOf.{IsAllOf, WriteGiven}
 use Rattle.linkage.specs.Numbers.{AreOwned, Earlier}
-use Rattle.linkage.specs.Sources.{IsEntryAt, IsExitAt}
+use Rattle.linkage.specs.Sources.{event_count, IsEntryAt, IsExitAt}
 
 abbrev pub place_at : ℕ → ℕ → Place
 place_at thread place = record { thread = thread; place = place }
@@ -17,6 +17,10 @@ place_at thread place = record { thread = thread; place = place }
 -- the place stands before the other: its thread is less, or it is the same and the event is earlier
 abbrev pub IsBefore : Place → Place → Type 0
 IsBefore place other = Earlier place.thread place.place other.thread other.place
+
+-- how many events stand before the place
+abbrev pub events_before : TraceLists → Place → ℕ
+events_before traces place = sum_by length (take place.thread traces.events) + place.place
 
 -- what is given from the start, or by an event before the place
 abbrev pub UpTo : {V : Type 0} → Place → (Option Place → Numbered V → Type 0) → Option Place → Numbered V → Type 0
@@ -45,7 +49,7 @@ pub record IsGathered (traces : TraceLists) (place : Place) (gathered : Gathered
   pub entries : IsAllOf (UpTo place (EntryGiven traces)) gathered.entries.items
   pub exits : IsAllOf (UpTo place (ExitGiven traces)) gathered.exits.items
   pub within : IsWithin traces gathered
-  pub few : length gathered.writes.items ≤ length traces.starts + fuel_limit * place.thread + place.place
+  pub few : length gathered.writes.items ≤ length traces.starts + events_before traces place
 
 -- all writes and turns of all events
 pub record IsGatheredAll (traces : TraceLists) (gathered : Gathered) : Type 0 where
@@ -53,7 +57,7 @@ pub record IsGatheredAll (traces : TraceLists) (gathered : Gathered) : Type 0 wh
   pub entries : IsAllOf (EntryGiven traces) gathered.entries.items
   pub exits : IsAllOf (ExitGiven traces) gathered.exits.items
   pub within : IsWithin traces gathered
-  pub few : length gathered.writes.items ≤ fuel_limit * thread_limit + cell_limit
+  pub few : length gathered.writes.items ≤ length traces.starts + event_count traces
 
 -- what an event adds
 abbrev pub IsAdded : Event → Gathered → Gathered → Type 0

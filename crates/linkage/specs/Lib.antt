@@ -9,5 +9,8 @@ pub mod Links
 pub mod Looking
 pub mod Misfitting
 pub mod Numbers
+pub mod Placing
 pub mod Refusals
 pub mod Sources
+pub mod Spans
+pub mod Turns

@@ -44,15 +44,11 @@ module _ {V : Type 0} where
   abbrev pub AreStarted : List (Numbered V) → ℕ → Type 0
   AreStarted items owners = (owner : ℕ) → owner < owners → (i : ℕ) × IsItemAt items i owner 0
 
-  -- no item before this place is above the number of its owner, and each owner has an item of its number
-  pub record AreGreatestBelow (items : List (Numbered V)) (owners high : ℕ) (greatest : List ℕ) : Type 0 where
+  -- these are the greatest numbers of each owner, and each owner has an item of its number
+  pub record AreGreatest (items : List (Numbered V)) (owners : ℕ) (greatest : List ℕ) : Type 0 where
     pub count : length greatest ≡ owners
-    pub above : (i owner number : ℕ) → i < high → IsItemAt items i owner number → number ≤ slice_index greatest owner
+    pub above : (i owner number : ℕ) → IsItemAt items i owner number → number ≤ slice_index greatest owner
     pub there : (owner : ℕ) → owner < owners → (i : ℕ) × IsItemAt items i owner (slice_index greatest owner)
-
-  -- these are the greatest numbers of each owner
-  abbrev pub AreGreatest : List (Numbered V) → ℕ → List ℕ → Type 0
-  AreGreatest items owners greatest = AreGreatestBelow items owners (length items) greatest
 
   -- the owner has a greater number, and no item has this one
   pub record IsGap (items : List (Numbered V)) (greatest : List ℕ) (owner number : ℕ) : Type 0 where

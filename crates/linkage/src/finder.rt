@@ -1,7 +1,9 @@
 //! The write that a read is linked to.
 ghost use Rattle.std.specs.Prelude.{◌≡◌, ◌+◌, ◌<◌, ◌≤◌, IfOk, IfSome, OnOk, length, slice_index};
-ghost use Rattle.linkage.specs.Checking.{IsRow};
+ghost use Rattle.linkage.specs.Checking.{IsRow, IsShaped};
 ghost use Rattle.linkage.specs.Finding.{IsFinder, IsIndex, IsLinkOrNone, IsNear, look_up_looks};
+ghost use Rattle.linkage.specs.Indexing.{AreListedBefore};
+ghost use Rattle.linkage.specs.Spans.{HasPlace, places_before};
 
 use crate::latest_write::latest;
 use crate::row::Row;
@@ -23,21 +25,35 @@ pub(crate) struct Finder {
 
 // The greatest number within the bound that stored the value, if it is near the bound.
 fn near(row: &Row, cell: u32, value: u64, bound: u32) -> Option<u32>
-    requires cell { cell < length row.now.firsts.items }
-    requires there { slice_index row.now.firsts.items cell + bound < length row.now.writes.items }
+    requires shape { IsShaped row.now }
+    requires there { HasPlace row.now.spans cell bound }
     ensures { IsNear row.now cell value bound result }
 {
-    let first = row.firsts[cell as usize];
+    let place = row.spans.place(cell, bound);
     for below in 0..NEAR {
         if below > bound {
             return None;
         }
-        let number = bound - below;
-        if row.writes[first + number as usize].value == value {
-            return Some(number);
+        if row.values[place - below as usize] == value {
+            return Some(bound - below);
         }
     }
     None
+}
+
+// Lists the writes of a cell by cell, value and number.
+fn list_cell(row: &Row, cell: u32, triples: &mut List<(u32, u64, u32)>)
+    requires shape { IsShaped row.now }
+    requires cell { cell < length row.now.spans.greatest.items }
+    requires room { places_before row.now.spans.greatest.items (cell + 1) ≤ length triples.old.items + triples.old.spare }
+    requires triples { AreListedBefore row.now cell 0 triples.old.items }
+    ensures triples { AreListedBefore row.now (cell + 1) 0 triples.new.items }
+    ensures room { length triples.new.items + triples.new.spare ≡ length triples.old.items + triples.old.spare }
+{
+    for number in 0..=row.spans.greatest[cell as usize] {
+        let value = row.values[row.spans.place(cell, number)];
+        triples.push_spare((cell, value, number));
+    }
 }
 
 // All writes by cell, value and number.
@@ -46,9 +62,9 @@ fn index_of(alloc: Global, traces: &Traces, row: &Row) -> Result<Ascending, NoMe
     ensures { IfOk result (λ index. IsIndex traces.now index) }
 {
     let mut triples = List::new(alloc);
-    triples.reserve(row.writes.len())?;
-    for write in &row.writes {
-        triples.push_spare((write.owner, write.value, write.number));
+    triples.reserve(row.values.len())?;
+    for cell in 0..traces.cells() {
+        list_cell(row, cell, &mut triples);
     }
     Ok(Ascending::sorted(triples))
 }
@@ -104,7 +120,7 @@ impl Finder {
     ) -> Result<Option<u32>, NoMemory>
         requires finder { IsFinder traces.now self.old }
         requires cell { cell < length traces.now.starts }
-        requires bound { bound ≤ slice_index self.old.row.greatest.items cell }
+        requires bound { bound ≤ slice_index self.old.row.spans.greatest.items cell }
         ensures found { IfOk result (λ found. IsLinkOrNone traces.now cell value bound found) }
         ensures finder { OnOk result (IsFinder traces.now self.new) }
         ensures looks { steps.new ≤ steps.old + look_up_looks }

@@ -32,10 +32,10 @@ pub(crate) enum Finding {
 fn is_old_stored(row: &Row, traces: &Traces, cell: u32, old: u64, number: u32) -> bool
     requires row { IsRow traces.now row.now }
     requires cell { cell < length traces.now.starts }
-    requires number { number ≤ slice_index row.now.greatest.items cell }
+    requires number { number ≤ slice_index row.now.spans.greatest.items cell }
     ensures { IsOldStored traces.now cell old number result }
 {
-    number > 0 && row.writes[row.firsts[cell as usize] + number as usize - 1].value == old
+    number > 0 && row.values[row.spans.place(cell, number) - 1] == old
 }
 
 /// Links the event at a place.
@@ -56,7 +56,7 @@ pub(crate) fn link_event<L: Ledger>(
 {
     match event {
         Event::Read { cell, value, bound } => {
-            if bound > finder.row.greatest[cell as usize] {
+            if bound > finder.row.spans.greatest[cell as usize] {
                 return Ok(Finding::TooLarge);
             }
             match finder.find(alloc, traces, cell, value, bound, steps)? {

@@ -1,4 +1,4 @@
-//! All writes and turns of the events.
+//! All writes and turns of the events, for what is refused to be told.
 ghost use Rattle.std.specs.Prelude.{◌≡◌, ◌+◌, ◌<◌, ◌≤◌, IfOk, OnOk, length};
 ghost use Rattle.interleavings.specs.TraceLists.{IsInRange, events_of};
 ghost use Rattle.linkage.specs.AllOf.{AreStartingTurns, AreStartingWrites};

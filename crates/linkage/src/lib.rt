@@ -18,7 +18,11 @@ mod linking;
 mod links;
 mod misfits;
 mod numbered;
+mod placing;
 mod row;
+mod spans;
+mod tops;
+mod turn_marks;
 mod turns;
 
 pub use latest_write::latest;

@@ -11,11 +11,11 @@ ghost use Rattle.linkage.specs.Sources.{event_count};
 
 use crate::finder::Finder;
 use crate::finding::link_event;
-use crate::gathered::gather;
 use crate::link_error::LinkError;
 use crate::links::Links;
 use crate::misfits::Misfits;
-use crate::row::order_writes;
+use crate::row::row_of;
+use crate::tops::tops_of;
 use crate::turns::check_turns;
 use interleavings::{Place, Traces};
 use std::alloc::Global;
@@ -85,9 +85,9 @@ pub fn link<L: Ledger>(
     ensures answer { IsAnswer traces.now result }
     ensures looks { steps.new ≤ steps.old + most_looks traces.now }
 {
-    let gathered = gather(alloc, traces, steps)?;
-    let row = order_writes(alloc, traces, gathered.writes)?;
-    check_turns(alloc, traces, gathered.entries, gathered.exits)?;
+    let tops = tops_of(alloc, traces, steps)?;
+    let row = row_of(alloc, traces, tops.writes, steps)?;
+    check_turns(alloc, traces, tops.entries, steps)?;
     let mut finder = Finder { row, index: None };
     link_all(alloc, traces, &mut finder, steps)
 }

@@ -7,13 +7,13 @@ use std::test::Fail;
 
 /// A row of numbers that are drawn, the same each time.
 #[derive(Drop)]
-struct Draws {
-    state: u64,
+pub(crate) struct Draws {
+    pub(crate) state: u64,
 }
 
 impl Draws {
-    // A number below 2^31.
-    fn number(&mut self) -> u32 {
+    /// A number below 2^31.
+    pub(crate) fn number(&mut self) -> u32 {
         self.state = self
             .state
             .wrapping_mul(6_364_136_223_846_793_005)
@@ -111,8 +111,8 @@ impl World {
     }
 }
 
-// The events of three threads, in so many steps.
-fn drawn(
+/// The events of three threads, in so many steps.
+pub(crate) fn drawn(
     alloc: Global,
     draws: &mut Draws,
     steps: u32,

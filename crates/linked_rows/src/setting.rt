@@ -118,8 +118,8 @@ pub(crate) fn traces_of(alloc: Global, threads: &[&[Event]]) -> Result<Traces, F
     Ok(traces)
 }
 
-// The links of a thread's events, read one by one.
-fn row_of<L: Ledger>(
+/// The links of a thread's events, read one by one.
+pub(crate) fn row_of<L: Ledger>(
     alloc: Global,
     traces: &Traces,
     links: &Links,

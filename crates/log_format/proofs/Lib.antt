@@ -4,6 +4,7 @@ pub mod BoundReaders
 pub mod BundleLaws
 pub mod Bytes
 pub mod EntryReaders
+pub mod Fuels
 pub mod Groups
 pub mod LogReaders
 pub mod Loops

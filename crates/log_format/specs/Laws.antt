@@ -1,5 +1,6 @@
 -- What holds of the spellings and the reading of bundles together, in both versions.
 use Rattle.std.specs.Prelude.{◌≡◌, ◌<◌, ◌≤◌, ℕ, List, [], ◌++◌, length, take, Ok, Err}
+use Rattle.stride_isa.specs.Limits.{fuel_limit}
 use Rattle.log_format.specs.declared.format_error.FormatKind.{FormatKind}
 use Rattle.log_format.specs.declared.format_error.FormatKind.TheVariants.{Short, BadMagic, BadTag, BadCount, BadForm, Long}
 use Rattle.log_format.specs.declared.version.Size.{Size}
@@ -23,6 +24,10 @@ SpellingIsRead = (version : Version) (bundle : Bundled) → IsInRange version bu
 -- bytes that read as a bundle are its spelling in one of the versions, so no other bytes do
 abbrev pub ReadIsSpelled : Type 0
 ReadIsSpelled = (bytes : List ℕ) (bundle : Bundled) → IsBytes bytes → reading bytes ≡ Ok bundle → IsSpelled bytes bundle
+
+-- bytes that read as a bundle tell a bound on the instructions that is within its range
+abbrev pub FuelIsInRange : Type 0
+FuelIsInRange = (bytes : List ℕ) (bundle : Bundled) → reading bytes ≡ Ok bundle → (1 ≤ bundle.fuel) × (bundle.fuel ≤ fuel_limit)
 
 -- what begins with the spelling of a bundle and is the spelling of one is the same spelling, of the same bundle in the same version
 abbrev pub NoSpellingBeginsAnother : Type 0

@@ -1,5 +1,5 @@
 //! What holds of the definitions of bundles together, each law as the contract of a function that does nothing.
-ghost use Rattle.log_format.specs.Laws.{SpellingIsRead, ReadIsSpelled, NoSpellingBeginsAnother, CutIsShort, MoreIsLong, NothingWrongBefore, WrongStaysWrong, ShortIsBegun};
+ghost use Rattle.log_format.specs.Laws.{SpellingIsRead, ReadIsSpelled, FuelIsInRange, NoSpellingBeginsAnother, CutIsShort, MoreIsLong, NothingWrongBefore, WrongStaysWrong, ShortIsBegun};
 
 /// Each spelling of a bundle reads as this bundle.
 pub fn spelling_is_read()
@@ -9,6 +9,11 @@ pub fn spelling_is_read()
 /// Bytes that read as a bundle are its spelling in one of the versions.
 pub fn read_is_spelled()
     ensures { ReadIsSpelled }
+{}
+
+/// Bytes that read as a bundle tell a bound on the instructions from 1 to its limit.
+pub fn fuel_is_in_range()
+    ensures { FuelIsInRange }
 {}
 
 /// No spelling of a bundle is the beginning of another.

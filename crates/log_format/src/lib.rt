@@ -23,8 +23,8 @@ pub use decoding::decode;
 pub use encoding::encode;
 pub use format_error::{FormatError, FormatKind};
 pub use laws::{
-    cut_is_short, more_is_long, no_spelling_begins_another, nothing_wrong_before, read_is_spelled,
-    short_is_begun, spelling_is_read, wrong_stays_wrong,
+    cut_is_short, fuel_is_in_range, more_is_long, no_spelling_begins_another, nothing_wrong_before,
+    read_is_spelled, short_is_begun, spelling_is_read, wrong_stays_wrong,
 };
 pub use version::{Size, Version};
 

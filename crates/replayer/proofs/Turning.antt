@@ -11,18 +11,20 @@ use Rattle.stride_isa.specs.Limits.{monitor_limit}
 use Rattle.stride_isa.specs.Listing.{Listing, cell_count}
 use Rattle.sc_machine.specs.declared.stop.Stop.{Stop}
 use Rattle.sc_machine.specs.declared.stop.Stop.TheVariants.{Read, Write, Update, Enter, Exit, Ended}
-use Rattle.sc_machine.specs.ThreadStep.{Stands, start_thread, now, settled, answered}
-use Rattle.sc_machine.specs.Laws.{TurnByStop}
+use Rattle.sc_machine.specs.ThreadStep.{Stands, start_thread, now, settled, answered, stop_of}
+use Rattle.sc_machine.specs.Laws.{ShownIn, TurnByStop, TurnsInARow}
 use Rattle.sc_machine.specs.StandingThread.{Standing, IsThreadOf}
 use Rattle.sc_machine.specs.ThreadRun.{NamesCell}
 use Rattle.sc_machine.specs.Machine.{Machine, thread_at, may_pass, can, is_free_for, put, word_read, cells_after, holders_after}
-use Rattle.sc_machine.specs.Schedule.{settled_lines, turn, turned}
+use Rattle.sc_machine.specs.Schedule.{settled_lines, turn, turned, turns}
 use Rattle.sc_machine.specs.Transcript.{spelled, transcript_bytes}
+use Rattle.sc_machine.specs.TurnsInARow as Row
+use Rattle.sc_machine.specs.TurnsInARow.{beside, cells_in, lines_by, turns_by, word_in}
 use Rattle.std.proofs.lemmas.Grind.{flat_map-append}
 use Rattle.replayer.specs.declared.player.Player.{Player}
 use Rattle.replayer.specs.declared.table.Table.{Table}
-use Rattle.replayer.specs.Players.{WentOn, thread_of}
-use Rattle.replayer.specs.Tables.{IsTable, Shows, cells_in, holders_in, may_in, word_in}
+use Rattle.replayer.specs.Players.{WentOn, WentTurns, thread_of}
+use Rattle.replayer.specs.Tables.{IsTable, Shows, TookTurns, holders_in, may_in}
 
 -- the thread of the machine that a player plays
 shown_thread : (table : Table) (m : Machine) (t : ℕ) (d : Player) → Shows table m → t < length table.players.items → d ≡ get_or table.players.items t d → thread_at m t ≡ thread_of d
@@ -207,3 +209,75 @@ module _ (by_stops : TurnByStop) (table : Table) (t : ℕ) (old new : Player) (t
 
   pub turn_shown : may_in t stop table.holders ≡ true → (m : Machine) → Shows table m → (can table.program.now t m ≡ true) × Shows table' (turn table.program.now table.fuel t m)
   turn_shown may m shows = turn_taken by_stops table t old new transcript stop m is within whose stands_there names_there may went_at shows
+
+-- no turn of a thread
+pub no_turns : (table : Table) (t limit : ℕ) (m : Machine) → Shows table m → TookTurns table table t limit 0 m
+unfolding turns
+no_turns table t limit m shows = record { within = omega arith; machine = m; reached = refl; shows = shows }
+
+-- a thread of this program took turns in a row, as they are told by the program, the fuel and its number
+record WentBy (p : Listing) (fuel t limit taken : ℕ) (old new : Standing) (cells cells' lines lines' : List ℕ) : Type 0 where
+  stood : now p t old.state ≡ Stands (stop_of p t old.state)
+  turns : Row.TookTurns p fuel t limit taken (beside cells old.state) (beside cells' new.state)
+  printed : lines' ≡ lines ++ transcript_bytes (lines_by p fuel t taken (beside cells old.state))
+
+went_turns_by : (p : Listing) (fuel t limit taken : ℕ) (old new : Standing) (cells cells' lines lines' : List ℕ) → IsThreadOf p fuel t old → WentTurns old new limit taken cells cells' lines lines' → WentBy p fuel t limit taken old new cells cells' lines lines'
+went_turns_by p fuel t limit taken old new cells cells' lines lines' is went =
+    subst (λ (n : ℕ). WentBy p fuel n limit taken old new cells cells' lines lines') is.which
+    (subst (λ (f : ℕ). WentBy p f old.number limit taken old new cells cells' lines lines') is.fuel_is
+    (subst (λ (q : Listing). WentBy q old.fuel old.number limit taken old new cells cells' lines lines') is.program
+    (record { stood = went.stood; turns = went.turns; printed = went.printed })))
+
+-- turns of a player in a row are turns of the machine that the table shows
+module _ (law : TurnsInARow) (table : Table) (t limit taken : ℕ) (old new : Player) (cells : List ℕ) (transcript : Listed ℕ) (went : WentTurns old.thread new.thread limit taken table.cells cells table.transcript.items transcript.items) (is : IsTable table) (found : slice_get table.players.items t ≡ Some old) where
+  abbrev played : Table
+  played = record { program = table.program; fuel = table.fuel; players = with_item table.players t new; cells = cells; holders = table.holders; transcript = transcript }
+
+  abbrev q : Listing
+  q = table.program.now
+
+  abbrev begun : Row.WithCells
+  begun = beside table.cells (thread_of old)
+
+  player_there : t < length table.players.items
+  player_there = slice_get_within table.players.items t old found
+
+  player_is : old ≡ get_or table.players.items t old
+  player_is = sym (get_or_from_slice_get table.players.items t old old found)
+
+  plays : IsThreadOf q table.fuel t old.thread
+  plays = subst (λ (player : Player). IsThreadOf q table.fuel t player.thread) (sym player_is) (is.each t old player_there)
+
+  by : WentBy q table.fuel t limit taken old.thread new.thread table.cells cells table.transcript.items transcript.items
+  by = went_turns_by q table.fuel t limit taken old.thread new.thread table.cells cells table.transcript.items transcript.items plays went
+
+  shown_in : (m : Machine) → Shows table m → ShownIn q t begun m
+  shown_in m shows = record {
+    there = omega (arith, player_there, ap length shows.threads, length-map table.players.items thread_of);
+    thread = sym (shown_thread table m t old shows player_there player_is);
+    stands = by.stood;
+    room = is.room;
+    cells = shows.cells;
+  }
+
+  pub turns_shown : (m : Machine) → Shows table m → TookTurns table played t limit taken m
+  turns_shown m shows =
+      let after = law q table.fuel t taken begun m (shown_in m shows) by.turns.accesses in
+      let thread : (turns_by q table.fuel t taken begun).thread ≡ thread_of new = sym (ap (λ (s : Row.WithCells). s.thread) by.turns.played) in
+      record {
+        within = by.turns.within;
+        machine = after.machine;
+        reached = after.reached;
+        shows = record {
+          threads = after.threads
+              ∙ ap (λ s. set m.threads t s) thread
+              ∙ ap (λ xs. set xs t (thread_of new)) shows.threads
+              ∙ sym (map-set thread_of table.players.items t new);
+          cells = λ cell below. ap (λ (s : Row.WithCells). slice_index s.cells cell) by.turns.played ∙ after.cells cell below;
+          holders = λ monitor below. shows.holders monitor below ∙ ap (λ holders. holders monitor) (sym after.holders);
+          transcript = by.printed
+              ∙ ap (λ xs. xs ++ transcript_bytes (lines_by q table.fuel t taken begun)) shows.transcript
+              ∙ sym (flat_map-append spelled m.transcript (lines_by q table.fuel t taken begun))
+              ∙ ap transcript_bytes (sym after.transcript);
+        };
+      }

@@ -1,36 +1,18 @@
 -- The table on which a schedule is played, beside the sequentially consistent machine that it shows. Only private clauses
 -- cite this module.
-use Rattle.std.specs.Prelude.{◌≡◌, ℕ, ◌<◌, ◌≤◌, Bool, true, false, List, length, map, slice_index, slice_set, Option, Some, None}
+use Rattle.std.specs.Prelude.{◌≡◌, ℕ, ◌<◌, ◌≤◌, Bool, true, false, List, length, map, replicate, slice_index, slice_set, Option, Some, None}
 use Rattle.std.specs.List.{slice_index_or}
-use Rattle.stride_isa.specs.Changes.{applied}
 use Rattle.stride_isa.specs.Limits.{monitor_limit}
 use Rattle.stride_isa.specs.Listing.{cell_count}
 use Rattle.sc_machine.specs.declared.stop.Stop.{Stop}
 use Rattle.sc_machine.specs.declared.stop.Stop.TheVariants.{Read, Write, Update, Enter, Exit, Ended}
+use Rattle.sc_machine.specs.Schedule.{turns}
 use Rattle.sc_machine.specs.StandingThread.{IsThreadOf}
 use Rattle.sc_machine.specs.Machine.{Machine, is_free_for}
 use Rattle.sc_machine.specs.Transcript.{transcript_bytes}
 use Rattle.replayer.specs.declared.player.Player.{Player}
 use Rattle.replayer.specs.declared.table.Table.{Table}
 use Rattle.replayer.specs.Players.{thread_of}
-
--- the word that a thread reads at a stop from the row of cells, 0 where it reads none
-abbrev pub word_in : Stop → List ℕ → ℕ
-word_in (Read cell) cells = slice_index cells cell
-word_in (Write cell value) cells = 0
-word_in (Update cell change) cells = slice_index cells cell
-word_in (Enter monitor) cells = 0
-word_in (Exit monitor) cells = 0
-word_in (Ended end) cells = 0
-
--- the row of cells after the instruction at a stop
-abbrev pub cells_in : Stop → List ℕ → List ℕ
-cells_in (Read cell) cells = cells
-cells_in (Write cell value) cells = slice_set cells cell value
-cells_in (Update cell change) cells = slice_set cells cell (applied change (slice_index cells cell))
-cells_in (Enter monitor) cells = cells
-cells_in (Exit monitor) cells = cells
-cells_in (Ended end) cells = cells
 
 -- whether a thread may go on at a stop, by the row of holders
 abbrev pub may_in : ℕ → Stop → List (Option ℕ) → Bool
@@ -68,3 +50,10 @@ pub record Shows (table : Table) (m : Machine) : Type 0 where
 pub record SameGame (old new : Table) : Type 0 where
   pub program : new.program ≡ old.program
   pub fuel : new.fuel ≡ old.fuel
+
+-- so many turns of a thread in a row, no more than it was let, are turns of the machine, which the table then shows
+pub record TookTurns (old new : Table) (t limit taken : ℕ) (m : Machine) : Type 0 where
+  pub within : taken ≤ limit
+  pub machine : Machine
+  pub reached : turns old.program.now old.fuel (replicate taken t) m ≡ Some machine
+  pub shows : Shows new machine

@@ -45,7 +45,8 @@ impl<'p> Player<'p> {
     ghost use Rattle.sc_machine.specs.ThreadRun.{TakesWord};
     ghost use Rattle.sc_machine.specs.Schedule.{settled_lines};
     ghost use Rattle.sc_machine.specs.Transcript.{tagged, transcript_bytes};
-    ghost use Rattle.replayer.specs.Players.{WentOn};
+    ghost use Rattle.stride_isa.specs.Listing.{cell_count};
+    ghost use Rattle.replayer.specs.Players.{WentOn, WentTurns};
 
     /// The thread after its local start. What it prints on the way is appended to the transcript too.
     pub fn start(
@@ -79,6 +80,24 @@ impl<'p> Player<'p> {
         let before = self.thread.printed().len();
         self.thread.answer(word);
         self.tell(self.thread.printed().split_at(before).1, transcript)
+    }
+
+    /// Takes up to this many turns of the thread in a row, each at an access to the cells, and tells how many: those before
+    /// the first stop that is no access. What it prints on the way is appended to the transcript too.
+    pub fn turns(
+        &mut self,
+        limit: u32,
+        cells: &mut [u64],
+        transcript: &mut List<u8>,
+    ) -> Result<u32, NoMemory>
+        requires { cell_count self.old.thread.program.decls ≤ length cells.old }
+        ensures { IfOk result (λ taken. WentTurns self.old.thread self.new.thread limit taken cells.old cells.new transcript.old.items transcript.new.items) }
+    {
+        sc_machine::turns_print();
+        let before = self.thread.printed().len();
+        let taken = self.thread.turns(limit, cells);
+        self.tell(self.thread.printed().split_at(before).1, transcript)?;
+        Ok(taken)
     }
 
     /// Appends bytes that the thread printed, with its label before each line. Most turns print nothing.

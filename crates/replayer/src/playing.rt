@@ -1,15 +1,35 @@
 //! The loop over a schedule.
-ghost use Rattle.std.specs.Prelude.{◌≤◌, length};
+ghost use Rattle.std.specs.Prelude.{◌<◌, ◌≤◌, length};
 ghost use Rattle.sc_machine.specs.Schedule.{ready};
-ghost use Rattle.replayer.specs.Schedules.{Plays};
+ghost use Rattle.replayer.specs.Schedules.{IsRow, Plays};
 ghost use Rattle.replayer.specs.Tables.{IsTable, Shows};
 
 use crate::replay_error::ReplayError;
 use crate::table::Table;
-use stride_base::NoMemory;
 use stride_base::limits::ORDER_LIMIT;
 
-/// Plays the schedule, one turn for each member.
+// The end of the row of members that name the same thread as the one at this place. Where the place is inside a row that
+// was found before, its end is known.
+fn row_end(schedule: &[u8], place: usize, known: usize) -> usize
+    requires there { place < length schedule.now }
+    requires inside { known ≤ length schedule.now }
+    requires alike { IsRow schedule.now place known }
+    ensures after { place < result }
+    ensures within { result ≤ length schedule.now }
+    ensures row { IsRow schedule.now place result }
+{
+    if place < known {
+        return known;
+    }
+    let mut end = place + 1;
+    while end < schedule.len() && schedule[end] == schedule[place] {
+        end += 1;
+    }
+    end
+}
+
+/// Plays the schedule, one turn for each member. Members in a row that name the same thread are played together, as far as
+/// its turns are accesses.
 pub fn play(table: &mut Table<'_>, schedule: &[u8]) -> Result<(), ReplayError>
     requires table { IsTable table.old }
     requires ready { Shows table.old (ready table.old.program.now table.old.fuel) }
@@ -18,15 +38,19 @@ pub fn play(table: &mut Table<'_>, schedule: &[u8]) -> Result<(), ReplayError>
 {
     sc_machine::replay_along_turns();
     sc_machine::turns_join();
-    for (place, thread) in schedule.iter().enumerate() {
-        match table.turn(*thread) {
-            Ok(true) => {}
-            Ok(false) => {
+    let mut place = 0;
+    let mut end = 0;
+    while place < schedule.len() {
+        end = row_end(schedule, place, end);
+        let taken = table.turns(schedule[place], (end - place) as u32)?;
+        place += taken as usize;
+        if place < end {
+            if !table.turn(schedule[place])? {
                 return Err(ReplayError::NotEnabled {
                     place: place as u32,
                 });
             }
-            Err(NoMemory) => return Err(ReplayError::NoMemory),
+            place += 1;
         }
     }
     Ok(())

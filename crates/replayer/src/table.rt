@@ -40,7 +40,7 @@ impl<'p> Table<'p> {
     ghost use Rattle.std.specs.Bool.{MatchBool};
     ghost use Rattle.sc_machine.specs.Machine.{Machine, can};
     ghost use Rattle.sc_machine.specs.Schedule.{ready, turn};
-    ghost use Rattle.replayer.specs.Tables.{IsTable, Shows, SameGame};
+    ghost use Rattle.replayer.specs.Tables.{IsTable, Shows, SameGame, TookTurns};
 
     /// One turn of a thread: its shared instruction, and its local ones up to the next shared one or its end. It answers
     /// false where there is no such thread or it cannot take a turn, and nothing has happened then.
@@ -83,6 +83,20 @@ impl<'p> Table<'p> {
             Stop::Ended { .. } => return Ok(false),
         }
         Ok(true)
+    }
+
+    /// Takes up to this many turns of a thread in a row, and tells how many: those before the first stop that is no read, no
+    /// write and no update. None where there is no such thread.
+    pub fn turns(&mut self, thread: u8, limit: u32) -> Result<u32, NoMemory>
+        requires { IsTable self.old }
+        ensures table { OnOk result (IsTable self.new × SameGame self.old self.new) }
+        ensures taken { (m : Machine) → Shows self.old m → IfOk result (λ taken. TookTurns self.old self.new thread limit taken m) }
+    {
+        sc_machine::turns_in_a_row();
+        let Some(player) = self.players.get_mut(thread as usize) else {
+            return Ok(0);
+        };
+        player.turns(limit, &mut self.cells, &mut self.transcript)
     }
 }
 

@@ -72,3 +72,49 @@ fn schedules_are_run_or_refused(rt: HostRuntime) -> Result<(), Fail> {
     }
     Ok(())
 }
+
+// A variable `x`, and two threads that add 2 and 10 to it, read it, print it and begin again.
+fn two_adders(alloc: Global) -> Result<Checked, Fail> {
+    let mut program = Program::new(alloc);
+    program.add_cells(variable(b"x", 0).ok_or("a name")?)?;
+    for step in [2, 10] {
+        let adds = [
+            Op::Push(step),
+            Op::AddTo(0),
+            Op::Drop,
+            Op::Read(0),
+            Op::Print,
+            Op::Jump(0),
+        ];
+        add_thread(&mut program, &adds)?;
+    }
+    Ok(check(alloc, program)?)
+}
+
+#[test]
+fn members_in_a_row_are_turns(rt: HostRuntime) -> Result<(), Fail> {
+    let program = two_adders(rt.alloc())?;
+    let rows: [(&[u8], &[u8], [u32; 2], u64); 4] = [
+        (&[0, 0, 1, 1, 0, 0], b"0 2\n1 12\n0 14\n", [1, 1], 14),
+        (&[0, 0, 0, 1], b"0 2\n", [3, 3], 14),
+        (&[1, 1, 1, 1, 1, 0], b"1 10\n1 20\n", [3, 3], 32),
+        (&[0, 1, 1, 0], b"1 12\n0 12\n", [1, 1], 12),
+    ];
+    for (schedule, transcript, stops, value) in rows {
+        let run = replay(rt.alloc(), &program, 100, schedule)?;
+        let [first, second] = stops;
+        let ends = [End::Stopped { pc: first }, End::Stopped { pc: second }];
+        assert!(rt; run.transcript.as_slice() == transcript);
+        assert!(rt; run.ends.as_slice() == ends.as_slice());
+        assert!(rt; run.last_values.as_slice() == [value].as_slice());
+    }
+    // Six instructions are two turns.
+    let refused: [(&[u8], u32); 3] = [(&[0, 0, 0], 2), (&[1, 0, 0, 0, 1], 3), (&[1, 1, 0, 1], 3)];
+    for (schedule, place) in refused {
+        let Err(error) = replay(rt.alloc(), &program, 6, schedule) else {
+            return Err("a run")?;
+        };
+        assert!(rt; error == ReplayError::NotEnabled { place });
+    }
+    Ok(())
+}

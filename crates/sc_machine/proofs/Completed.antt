@@ -7,7 +7,7 @@ use Rattle.sc_machine.specs.ThreadStep.{Thread, done_stack, done_held, out_of_st
 use Rattle.sc_machine.proofs.RanOn.{thread_of_parts}
 
 -- the parts after a shared instruction are the thread after it
-answered_parts : (p : Listing) (fuel t pc pc' made made' word : ℕ) (stack stack' locals : List ℕ) (held held' : List Bool) (out : List ℕ) (ended later : Option End) → pc' ≡ pc + 1 → made' ≡ made + 1 → stack' ≡ done_stack (op_at p t pc) stack word → held' ≡ done_held (op_at p t pc) held → later ≡ out_of_steps fuel made' → thread_of_parts pc' stack' locals held' out made' later ≡ answered p fuel t word (thread_of_parts pc stack locals held out made ended)
+pub answered_parts : (p : Listing) (fuel t pc pc' made made' word : ℕ) (stack stack' locals : List ℕ) (held held' : List Bool) (out : List ℕ) (ended later : Option End) → pc' ≡ pc + 1 → made' ≡ made + 1 → stack' ≡ done_stack (op_at p t pc) stack word → held' ≡ done_held (op_at p t pc) held → later ≡ out_of_steps fuel made' → thread_of_parts pc' stack' locals held' out made' later ≡ answered p fuel t word (thread_of_parts pc stack locals held out made ended)
 answered_parts p fuel t pc pc' made made' word stack stack' locals held held' out ended later next counted stack_is held_is end =
     ap (λ n. thread_of_parts n stack' locals held' out made' later) next
     ∙ ap (λ x. thread_of_parts (pc + 1) x locals held' out made' later) stack_is

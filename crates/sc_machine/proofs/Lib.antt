@@ -13,3 +13,5 @@ pub mod Standing
 pub mod Starts
 pub mod Steps
 pub mod Told
+pub mod Turning
+mod TurnsOfOne

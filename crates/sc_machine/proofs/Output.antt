@@ -7,11 +7,12 @@ use Rattle.std.proofs.lemmas.Bool.Decides.{nat_tests}
 use Rattle.std.specs.Fmt.{decimal, digits, digits_onto, digit_glyph}
 use Rattle.stride_isa.specs.Listing.{Listing, op_at}
 use Rattle.sc_machine.specs.declared.end.End.{End}
-use Rattle.sc_machine.specs.ThreadStep.{Thread, Row, Goes, Ends, Stands, printed_by, row, now_unless, now, moved, local_step, local_steps, settled}
+use Rattle.sc_machine.specs.ThreadStep.{Thread, Row, Goes, Ends, Stands, printed_by, row, now_unless, now, moved, local_step, local_steps, settled, stop_of}
 use Rattle.sc_machine.specs.Machine.{Printed, printed_line}
 use Rattle.sc_machine.specs.Schedule.{printed_in, settled_lines}
 use Rattle.sc_machine.proofs.Rows.{IsPrint, row_prints}
 use Rattle.sc_machine.specs.Transcript.{tag, spelled, transcript_bytes, line_bytes, tagged}
+use Rattle.sc_machine.specs.TurnsInARow.{WithCells, answered_in, turns_by, lines_by}
 
 -- no byte is a line feed
 abbrev HasNoFeed : List ℕ → Type 0
@@ -83,16 +84,38 @@ line_bytes-next : (t : ℕ) (bytes : List ℕ) (lines : List Printed) → line_b
 line_bytes-next t bytes lines =
     flat_map-append (λ (x : Printed). x.line) (printed_line t bytes) lines ∙ ap (λ xs. xs ++ line_bytes lines) (line_bytes-printed_line t bytes)
 
-printed_in-tagged : (p : Listing) (fuel t n : ℕ) (s : Thread) → tagged t true (line_bytes (printed_in p fuel t n s)) ≡ transcript_bytes (printed_in p fuel t n s)
+-- lines of a thread, whatever bytes come after them
+abbrev AreLines : ℕ → List Printed → Type 0
+AreLines t lines = (rest : List ℕ) → tagged t true (line_bytes lines ++ rest) ≡ transcript_bytes lines ++ tagged t true rest
+
+-- the lines themselves
+lines_tagged : (t : ℕ) (lines : List Printed) → AreLines t lines → tagged t true (line_bytes lines) ≡ transcript_bytes lines
+lines_tagged t lines are = sym (ap (tagged t true) (append-nil (line_bytes lines))) ∙ are [] ∙ append-nil (transcript_bytes lines)
+
+-- some lines and then others
+lines_joined : (t : ℕ) (lines more : List Printed) → AreLines t lines → AreLines t more → AreLines t (lines ++ more)
+lines_joined t lines more are are_more rest =
+    ap (λ xs. tagged t true (xs ++ rest)) (flat_map-append (λ (x : Printed). x.line) lines more)
+    ∙ ap (tagged t true) (append_assoc (line_bytes lines) (line_bytes more) rest)
+    ∙ are (line_bytes more ++ rest)
+    ∙ ap (λ xs. transcript_bytes lines ++ xs) (are_more rest)
+    ∙ sym (append_assoc (transcript_bytes lines) (transcript_bytes more) (tagged t true rest))
+    ∙ sym (ap (λ xs. xs ++ tagged t true rest) (flat_map-append spelled lines more))
+
+-- a print is a line
+print_line : (t : ℕ) (bytes : List ℕ) → IsPrint bytes → AreLines t (printed_line t bytes)
+print_line t bytes print rest =
+    ap (λ xs. tagged t true (xs ++ rest)) (line_bytes-printed_line t bytes) ∙ tagged-print t bytes rest print
+
+printed_in-lines : (p : Listing) (fuel t n : ℕ) (s : Thread) → AreLines t (printed_in p fuel t n s)
 unfolding printed_in
-printed_in-tagged p fuel t zero s = refl
-printed_in-tagged p fuel t (suc n) s =
-    let bytes = printed_by (now p t s) in
-    let lines = printed_in p fuel t n (local_step p fuel t s) in
-    ap (λ xs. tagged t true xs) (line_bytes-next t bytes lines)
-    ∙ tagged-print t bytes (line_bytes lines) (now_prints p t s)
-    ∙ ap (λ xs. transcript_bytes (printed_line t bytes) ++ xs) (printed_in-tagged p fuel t n (local_step p fuel t s))
-    ∙ sym (flat_map-append spelled (printed_line t bytes) lines)
+printed_in-lines p fuel t zero s = λ rest. refl
+printed_in-lines p fuel t (suc n) s =
+    lines_joined t (printed_line t (printed_by (now p t s))) (printed_in p fuel t n (local_step p fuel t s)) (print_line t (printed_by (now p t s)) (now_prints p t s)) (printed_in-lines p fuel t n (local_step p fuel t s))
+
+settled_lines-lines : (p : Listing) (fuel t : ℕ) (s : Thread) → AreLines t (settled_lines p fuel t s)
+unfolding settled_lines
+settled_lines-lines p fuel t s = printed_in-lines p fuel t (fuel - s.made) s
 
 pub moved-out : (fuel : ℕ) (r : Row) (s : Thread) → (moved fuel r s).out ≡ s.out ++ printed_by r
 moved-out fuel (Goes pc stack locals printed) s = refl
@@ -115,9 +138,37 @@ pub settled-out : (p : Listing) (fuel t : ℕ) (s : Thread) → (settled p fuel 
 unfolding settled settled_lines
 settled-out p fuel t s = local_steps-out p fuel t (fuel - s.made) s
 
+-- bytes that were appended are these lines
+appended_tagged : (t : ℕ) (before after bytes : List ℕ) (lines : List Printed) → AreLines t lines → after ≡ before ++ line_bytes lines → after ≡ before ++ bytes → tagged t true bytes ≡ transcript_bytes lines
+appended_tagged t before after bytes lines are told appended =
+    ap (λ xs. tagged t true xs) (append_cancel_left before bytes (line_bytes lines) (sym appended ∙ told)) ∙ lines_tagged t lines are
+
 -- the bytes appended, with the thread's tag before each line, are the lines of the transcript
 pub settled-tagged : (p : Listing) (fuel t : ℕ) (s : Thread) (bytes : List ℕ) → (settled p fuel t s).out ≡ s.out ++ bytes → tagged t true bytes ≡ transcript_bytes (settled_lines p fuel t s)
-unfolding settled_lines
 settled-tagged p fuel t s bytes appended =
-    ap (λ xs. tagged t true xs) (append_cancel_left s.out bytes (line_bytes (settled_lines p fuel t s)) (sym appended ∙ settled-out p fuel t s))
-    ∙ printed_in-tagged p fuel t (fuel - s.made) s
+    appended_tagged t s.out (settled p fuel t s).out bytes (settled_lines p fuel t s) (settled_lines-lines p fuel t s) (settled-out p fuel t s) appended
+
+-- the same of turns in a row
+pub turns-out : (p : Listing) (fuel t n : ℕ) (s : WithCells) → (turns_by p fuel t n s).thread.out ≡ s.thread.out ++ line_bytes (lines_by p fuel t n s)
+unfolding turns_by lines_by
+turns-out p fuel t zero s = sym (append-nil s.thread.out)
+turns-out p fuel t (suc n) s =
+    let last = turns_by p fuel t n s in
+    let answer = answered_in p fuel t (stop_of p t last.thread) last in
+    let lines = settled_lines p fuel t answer in
+    settled-out p fuel t answer
+    ∙ ap (λ xs. xs ++ line_bytes lines) (turns-out p fuel t n s)
+    ∙ append_assoc s.thread.out (line_bytes (lines_by p fuel t n s)) (line_bytes lines)
+    ∙ ap (λ xs. s.thread.out ++ xs) (sym (flat_map-append (λ (x : Printed). x.line) (lines_by p fuel t n s) lines))
+
+turns-lines : (p : Listing) (fuel t n : ℕ) (s : WithCells) → AreLines t (lines_by p fuel t n s)
+unfolding lines_by
+turns-lines p fuel t zero s = λ rest. refl
+turns-lines p fuel t (suc n) s =
+    let last = turns_by p fuel t n s in
+    let answer = answered_in p fuel t (stop_of p t last.thread) last in
+    lines_joined t (lines_by p fuel t n s) (settled_lines p fuel t answer) (turns-lines p fuel t n s) (settled_lines-lines p fuel t answer)
+
+pub turns-tagged : (p : Listing) (fuel t n : ℕ) (s : WithCells) (bytes : List ℕ) → (turns_by p fuel t n s).thread.out ≡ s.thread.out ++ bytes → tagged t true bytes ≡ transcript_bytes (lines_by p fuel t n s)
+turns-tagged p fuel t n s bytes appended =
+    appended_tagged t s.thread.out (turns_by p fuel t n s).thread.out bytes (lines_by p fuel t n s) (turns-lines p fuel t n s) (turns-out p fuel t n s) appended

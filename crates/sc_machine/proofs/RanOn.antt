@@ -6,15 +6,13 @@ use Rattle.stride_isa.specs.Listing.{Listing, op_at}
 use Rattle.stride_isa.specs.Validity.{Reaches}
 use Rattle.stride_isa.specs.declared.op.Op.{Op}
 use Rattle.sc_machine.specs.declared.end.End.{End}
-use Rattle.sc_machine.specs.declared.end.End.TheVariants.{OutOfSteps}
 use Rattle.sc_machine.specs.declared.instruction.Next.TheVariants as nexts
+use Rattle.sc_machine.specs.declared.stop.Stop.{Stop}
 use Rattle.sc_machine.specs.Made.{Made}
 use Rattle.sc_machine.specs.Operands.{operands}
-use Rattle.sc_machine.specs.Running.{RanOn}
 use Rattle.sc_machine.specs.ThreadRunInside.{IsRun}
 use Rattle.sc_machine.specs.ThreadStep.{Thread, Row, Goes, Ends, Stands, row, now, moved, local_step, settled, stop_in, stop_of, out_of_steps}
-use Rattle.sc_machine.proofs.Inside.{spent}
-use Rattle.sc_machine.proofs.Steps.{settled-standing, settled-step}
+use Rattle.sc_machine.proofs.Steps.{settled-step}
 
 -- as many words are on the stack as its depth says
 pub length-operands : (words : List ℕ) (depth : ℕ) → depth ≤ length words → length (operands words depth) ≡ depth
@@ -75,39 +73,28 @@ settled-going p fuel t pc made next op stack stack' locals locals' held out out'
     ap (settled p fuel t) (sym stepped) ∙ settled-step p fuel t s had (ap (λ (x : Thread). x.made) stepped)
 
 -- or ends it
-settled-ending : (p : Listing) (fuel t pc made : ℕ) (end : End) (op : Op) (stack stack' locals locals' : List ℕ) (held : List Bool) (out out' : Listed ℕ) → op ≡ op_at p t pc → made < fuel → Made (row p op pc stack locals held) (nexts.Ends end) stack stack' locals locals' out out' → settled p fuel t (thread_of_parts pc stack' locals' held out'.items (made + 1) (Some end)) ≡ settled p fuel t (thread_of_parts pc stack locals held out.items made None)
+pub settled-ending : (p : Listing) (fuel t pc made : ℕ) (end : End) (op : Op) (stack stack' locals locals' : List ℕ) (held : List Bool) (out out' : Listed ℕ) → op ≡ op_at p t pc → made < fuel → Made (row p op pc stack locals held) (nexts.Ends end) stack stack' locals locals' out out' → settled p fuel t (thread_of_parts pc stack' locals' held out'.items (made + 1) (Some end)) ≡ settled p fuel t (thread_of_parts pc stack locals held out.items made None)
 settled-ending p fuel t pc made end op stack stack' locals locals' held out out' is had m =
     let s = thread_of_parts pc stack locals held out.items made None in
     let stepped : local_step p fuel t s ≡ thread_of_parts pc stack' locals' held out'.items (made + 1) (Some end) =
     ap (λ x. moved fuel (row p x pc stack locals held) s) (sym is) ∙ moved_ending fuel (row p op pc stack locals held) pc made end stack stack' locals locals' held out out' m in
     ap (settled p fuel t) (sym stepped) ∙ settled-step p fuel t s had (ap (λ (x : Thread). x.made) stepped)
 
-ran_to : (p : Listing) (fuel t : ℕ) (first last : Thread) → now p t last ≡ Stands (stop_of p t last) → settled p fuel t last ≡ settled p fuel t first → RanOn p fuel t first last
-ran_to p fuel t first last stands same = record {
-  settles = sym (settled-standing p fuel t last (stop_of p t last) stands) ∙ same;
-  stands = stands;
-}
+-- a thread that stands at a shared instruction has its parts as they were
+pub record Stayed (p : Listing) (t : ℕ) (stop : Stop) (old new : Thread) : Type 0 where
+  pub same : new ≡ old
+  pub stands : now p t new ≡ Stands (stop_of p t new)
+  pub stop_is : stop_of p t new ≡ stop
 
--- where the loop is left as the fuel is used up
-pub ran_spent : (p : Listing) (fuel t pc made next : ℕ) (op : Op) (stack stack' locals locals' : List ℕ) (held : List Bool) (out out' : Listed ℕ) (first : Thread) → settled p fuel t (thread_of_parts pc stack locals held out.items made None) ≡ settled p fuel t first → op ≡ op_at p t pc → made < fuel → Made (row p op pc stack locals held) (nexts.Goes next) stack stack' locals locals' out out' → fuel ≤ made + 1 → RanOn p fuel t first (thread_of_parts next stack' locals' held out'.items (made + 1) (Some OutOfSteps))
-ran_spent p fuel t pc made next op stack stack' locals locals' held out out' first settles is had m all =
-    ran_to p fuel t first _ refl (settled-going p fuel t pc made next op stack stack' locals locals' held out out' (Some OutOfSteps) is had m (spent fuel (made + 1) all) ∙ settles)
-
--- where it is left at an end
-pub ran_ended : (p : Listing) (fuel t pc made : ℕ) (end : End) (op : Op) (stack stack' locals locals' : List ℕ) (held : List Bool) (out out' : Listed ℕ) (first : Thread) → settled p fuel t (thread_of_parts pc stack locals held out.items made None) ≡ settled p fuel t first → op ≡ op_at p t pc → made < fuel → Made (row p op pc stack locals held) (nexts.Ends end) stack stack' locals locals' out out' → RanOn p fuel t first (thread_of_parts pc stack' locals' held out'.items (made + 1) (Some end))
-ran_ended p fuel t pc made end op stack stack' locals locals' held out out' first settles is had m =
-    ran_to p fuel t first _ refl (settled-ending p fuel t pc made end op stack stack' locals locals' held out out' is had m ∙ settles)
-
--- where it is left at a shared instruction
-pub ran_stands : (p : Listing) (fuel t pc made : ℕ) (op : Op) (stack stack' locals locals' : List ℕ) (held : List Bool) (out out' : Listed ℕ) (first : Thread) → settled p fuel t (thread_of_parts pc stack locals held out.items made None) ≡ settled p fuel t first → op ≡ op_at p t pc → Made (row p op pc stack locals held) nexts.Stands stack stack' locals locals' out out' → RanOn p fuel t first (thread_of_parts pc stack' locals' held out'.items made None)
-ran_stands p fuel t pc made op stack stack' locals locals' held out out' first settles is m =
+pub stayed : (p : Listing) (t pc made : ℕ) (op : Op) (stack stack' locals locals' : List ℕ) (held : List Bool) (out out' : Listed ℕ) → op ≡ op_at p t pc → Made (row p op pc stack locals held) nexts.Stands stack stack' locals locals' out out' → Stayed p t (stop_in (row p op pc stack locals held)) (thread_of_parts pc stack locals held out.items made None) (thread_of_parts pc stack' locals' held out'.items made None)
+stayed p t pc made op stack stack' locals locals' held out out' is m =
     let u = unmoved (row p op pc stack locals held) stack stack' locals locals' out out' m in
     let s = thread_of_parts pc stack locals held out.items made None in
     let same : thread_of_parts pc stack' locals' held out'.items made None ≡ s =
     same_parts pc made stack' stack locals' locals held out'.items out.items None None u.stack_same u.locals_same u.out_same refl in
     let StandsThere : Thread → Type 0 = λ x. now p t x ≡ Stands (stop_of p t x) in
     let here : StandsThere s = subst (λ (x : Op). row p x pc stack locals held ≡ Stands (stop_in (row p x pc stack locals held))) is u.row_is in
-    ran_to p fuel t first _ (subst StandsThere (sym same) here) (ap (settled p fuel t) same ∙ settles)
+    record { same = same; stands = subst StandsThere (sym same) here; stop_is = ap (stop_of p t) same ∙ sym (ap (λ x. stop_in (row p x pc stack locals held)) is) }
 
 -- what always holds of a run holds where it ends
 pub is_run_ended : (p : Listing) (t fuel pc depth made : ℕ) (end : End) (stack stack' locals locals' : List ℕ) (r : Row) (out out' : Listed ℕ) (depth' : ℕ) → IsRun p t fuel pc depth made None → length stack ≡ depth → length stack' ≡ depth' → Made r (nexts.Ends end) stack stack' locals locals' out out' → IsRun p t fuel pc depth' (made + 1) (Some end)

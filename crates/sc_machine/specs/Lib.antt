@@ -11,3 +11,4 @@ pub mod ThreadRun
 pub mod ThreadRunInside
 pub mod ThreadStep
 pub mod Transcript
+pub mod TurnsInARow

@@ -1,13 +1,15 @@
 //! One instruction, over the parts of a thread's state.
-ghost use Rattle.std.specs.Prelude.{◌≡◌, ℕ, List as Words, ◌<◌, ◌≤◌, IfSome, length};
+ghost use Rattle.std.specs.Prelude.{◌≡◌, ℕ, List as Words, ◌<◌, ◌≤◌, IfSome, length, slice_index, slice_set};
 ghost use Rattle.std.specs.List.{list_any};
+ghost use Rattle.stride_isa.specs.Changes.{applied};
 ghost use Rattle.stride_isa.specs.Instructions.{kind, popped};
+ghost use Rattle.stride_isa.specs.Listing.{cell_count};
 ghost use Rattle.stride_isa.specs.Validity.{depth_after, Names};
 ghost use Rattle.sc_machine.specs.ThreadStep.{row, halt_end, member_cell as cell_of_member, stop_in, done_stack, done_held};
 ghost use Rattle.sc_machine.specs.ThreadRun.{IsCell, IsMonitor, NamesCell};
 ghost use Rattle.sc_machine.specs.declared.end.End.TheVariants.{Halted, Trapped};
 ghost use Rattle.sc_machine.specs.declared.stop.Stop.TheVariants.{Ended};
-ghost use Rattle.sc_machine.specs.Made.{Made};
+ghost use Rattle.sc_machine.specs.Made.{Executed};
 ghost use Rattle.sc_machine.specs.Operands.{operands};
 
 use crate::end::End;
@@ -25,6 +27,8 @@ use stride_isa::{Change, Checked, Op, instructions};
 pub enum Next {
     /// It was local, and the thread goes on at this position.
     Goes(u32),
+    /// It was an access, which was made, and the thread goes on at the next position.
+    Passes,
     /// It ended the thread.
     Ends(End),
     /// It is a shared one, and was not made.
@@ -43,30 +47,30 @@ macro_rules! with_operand {
 
 // One macro for each class of the table: what its instructions do to the parts, of which each class is handed all.
 macro_rules! pushes {
-    (Push ($program:ident $pc:ident $words:ident $top:ident $locals:ident $held:ident $out:ident) $value:ident) => {{
+    (Push ($program:ident $pc:ident $words:ident $top:ident $locals:ident $held:ident $cells:ident $left:ident $out:ident) $value:ident) => {{
         $top.push($words, $value);
         Next::Goes($pc + 1)
     }};
 }
 
 macro_rules! stack {
-    (Dup ($program:ident $pc:ident $words:ident $top:ident $locals:ident $held:ident $out:ident) $value:ident) => {{
+    (Dup ($program:ident $pc:ident $words:ident $top:ident $locals:ident $held:ident $cells:ident $left:ident $out:ident) $value:ident) => {{
         let first = $top.peek($words, 0);
         $top.push($words, first);
         Next::Goes($pc + 1)
     }};
-    (Drop ($program:ident $pc:ident $words:ident $top:ident $locals:ident $held:ident $out:ident) $value:ident) => {{
+    (Drop ($program:ident $pc:ident $words:ident $top:ident $locals:ident $held:ident $cells:ident $left:ident $out:ident) $value:ident) => {{
         $top.pop($words);
         Next::Goes($pc + 1)
     }};
-    (Swap ($program:ident $pc:ident $words:ident $top:ident $locals:ident $held:ident $out:ident) $value:ident) => {{
+    (Swap ($program:ident $pc:ident $words:ident $top:ident $locals:ident $held:ident $cells:ident $left:ident $out:ident) $value:ident) => {{
         let first = $top.pop($words);
         let second = $top.pop($words);
         $top.push($words, first);
         $top.push($words, second);
         Next::Goes($pc + 1)
     }};
-    (Over ($program:ident $pc:ident $words:ident $top:ident $locals:ident $held:ident $out:ident) $value:ident) => {{
+    (Over ($program:ident $pc:ident $words:ident $top:ident $locals:ident $held:ident $cells:ident $left:ident $out:ident) $value:ident) => {{
         let second = $top.peek($words, 1);
         $top.push($words, second);
         Next::Goes($pc + 1)
@@ -74,7 +78,7 @@ macro_rules! stack {
 }
 
 macro_rules! two {
-    ($variant:ident ($program:ident $pc:ident $words:ident $top:ident $locals:ident $held:ident $out:ident) $value:ident ($method:ident)) => {{
+    ($variant:ident ($program:ident $pc:ident $words:ident $top:ident $locals:ident $held:ident $cells:ident $left:ident $out:ident) $value:ident ($method:ident)) => {{
         let right = $top.pop($words);
         let left = $top.pop($words);
         $top.push($words, left.$method(right));
@@ -83,7 +87,7 @@ macro_rules! two {
 }
 
 macro_rules! quotient {
-    ($variant:ident ($program:ident $pc:ident $words:ident $top:ident $locals:ident $held:ident $out:ident) $value:ident ($operator:tt)) => {
+    ($variant:ident ($program:ident $pc:ident $words:ident $top:ident $locals:ident $held:ident $cells:ident $left:ident $out:ident) $value:ident ($operator:tt)) => {
         if $top.peek($words, 0) == 0 {
             Next::Ends(trapped(Trap::DivZero, $pc))
         } else {
@@ -96,7 +100,7 @@ macro_rules! quotient {
 }
 
 macro_rules! bits {
-    ($variant:ident ($program:ident $pc:ident $words:ident $top:ident $locals:ident $held:ident $out:ident) $value:ident ($operator:tt)) => {{
+    ($variant:ident ($program:ident $pc:ident $words:ident $top:ident $locals:ident $held:ident $cells:ident $left:ident $out:ident) $value:ident ($operator:tt)) => {{
         let right = $top.pop($words);
         let left = $top.pop($words);
         $top.push($words, left $operator right);
@@ -105,7 +109,7 @@ macro_rules! bits {
 }
 
 macro_rules! shift {
-    ($variant:ident ($program:ident $pc:ident $words:ident $top:ident $locals:ident $held:ident $out:ident) $value:ident ($operator:tt)) => {{
+    ($variant:ident ($program:ident $pc:ident $words:ident $top:ident $locals:ident $held:ident $cells:ident $left:ident $out:ident) $value:ident ($operator:tt)) => {{
         let right = $top.pop($words);
         let left = $top.pop($words);
         $top.push($words, left $operator (right % 64));
@@ -114,7 +118,7 @@ macro_rules! shift {
 }
 
 macro_rules! compare {
-    ($variant:ident ($program:ident $pc:ident $words:ident $top:ident $locals:ident $held:ident $out:ident) $value:ident ($operator:tt)) => {{
+    ($variant:ident ($program:ident $pc:ident $words:ident $top:ident $locals:ident $held:ident $cells:ident $left:ident $out:ident) $value:ident ($operator:tt)) => {{
         let right = $top.pop($words);
         let left = $top.pop($words);
         $top.push($words, u64::from(left $operator right));
@@ -123,7 +127,7 @@ macro_rules! compare {
 }
 
 macro_rules! complement {
-    ($variant:ident ($program:ident $pc:ident $words:ident $top:ident $locals:ident $held:ident $out:ident) $value:ident) => {{
+    ($variant:ident ($program:ident $pc:ident $words:ident $top:ident $locals:ident $held:ident $cells:ident $left:ident $out:ident) $value:ident) => {{
         let first = $top.pop($words);
         $top.push($words, !first);
         Next::Goes($pc + 1)
@@ -131,27 +135,27 @@ macro_rules! complement {
 }
 
 macro_rules! gets {
-    ($variant:ident ($program:ident $pc:ident $words:ident $top:ident $locals:ident $held:ident $out:ident) $local:ident) => {{
+    ($variant:ident ($program:ident $pc:ident $words:ident $top:ident $locals:ident $held:ident $cells:ident $left:ident $out:ident) $local:ident) => {{
         $top.push($words, $locals[$local as usize]);
         Next::Goes($pc + 1)
     }};
 }
 
 macro_rules! sets {
-    ($variant:ident ($program:ident $pc:ident $words:ident $top:ident $locals:ident $held:ident $out:ident) $local:ident) => {{
+    ($variant:ident ($program:ident $pc:ident $words:ident $top:ident $locals:ident $held:ident $cells:ident $left:ident $out:ident) $local:ident) => {{
         $locals[$local as usize] = $top.pop($words);
         Next::Goes($pc + 1)
     }};
 }
 
 macro_rules! jumps {
-    ($variant:ident ($program:ident $pc:ident $words:ident $top:ident $locals:ident $held:ident $out:ident) $position:ident) => {
+    ($variant:ident ($program:ident $pc:ident $words:ident $top:ident $locals:ident $held:ident $cells:ident $left:ident $out:ident) $position:ident) => {
         Next::Goes($position)
     };
 }
 
 macro_rules! branches {
-    ($variant:ident ($program:ident $pc:ident $words:ident $top:ident $locals:ident $held:ident $out:ident) $target:ident ($operator:tt)) => {
+    ($variant:ident ($program:ident $pc:ident $words:ident $top:ident $locals:ident $held:ident $cells:ident $left:ident $out:ident) $target:ident ($operator:tt)) => {
         if $top.pop($words) $operator 0 {
             Next::Goes($target)
         } else {
@@ -160,42 +164,91 @@ macro_rules! branches {
     };
 }
 
+// An access is made at once where a turn is left. Monitors are entered and left by an answer alone.
 macro_rules! stands {
-    (Read ($program:ident $pc:ident $words:ident $top:ident $locals:ident $held:ident $out:ident) $decl:ident) => {
-        Next::Stands
+    (Read ($program:ident $pc:ident $words:ident $top:ident $locals:ident $held:ident $cells:ident $left:ident $out:ident) $decl:ident) => {
+        if $left == 0 {
+            Next::Stands
+        } else {
+            let cell = $program.first_cell($decl);
+            $top.push($words, $cells[cell as usize]);
+            Next::Passes
+        }
     };
-    (Write ($program:ident $pc:ident $words:ident $top:ident $locals:ident $held:ident $out:ident) $decl:ident) => {
-        Next::Stands
+    (Write ($program:ident $pc:ident $words:ident $top:ident $locals:ident $held:ident $cells:ident $left:ident $out:ident) $decl:ident) => {
+        if $left == 0 {
+            Next::Stands
+        } else {
+            let cell = $program.first_cell($decl);
+            $cells[cell as usize] = $top.pop($words);
+            Next::Passes
+        }
     };
-    (ReadAt ($program:ident $pc:ident $words:ident $top:ident $locals:ident $held:ident $out:ident) $decl:ident) => {
+    (ReadAt ($program:ident $pc:ident $words:ident $top:ident $locals:ident $held:ident $cells:ident $left:ident $out:ident) $decl:ident) => {
         match member_cell($program, $decl, $top.peek($words, 0)) {
-            Some(_) => Next::Stands,
+            Some(cell) => {
+                if $left == 0 {
+                    Next::Stands
+                } else {
+                    $top.pop($words);
+                    $top.push($words, $cells[cell as usize]);
+                    Next::Passes
+                }
+            }
             None => Next::Ends(trapped(Trap::Range, $pc)),
         }
     };
-    (WriteAt ($program:ident $pc:ident $words:ident $top:ident $locals:ident $held:ident $out:ident) $decl:ident) => {
+    (WriteAt ($program:ident $pc:ident $words:ident $top:ident $locals:ident $held:ident $cells:ident $left:ident $out:ident) $decl:ident) => {
         match member_cell($program, $decl, $top.peek($words, 0)) {
-            Some(_) => Next::Stands,
+            Some(cell) => {
+                if $left == 0 {
+                    Next::Stands
+                } else {
+                    $top.pop($words);
+                    $cells[cell as usize] = $top.pop($words);
+                    Next::Passes
+                }
+            }
             None => Next::Ends(trapped(Trap::Range, $pc)),
         }
     };
-    (Xchg ($program:ident $pc:ident $words:ident $top:ident $locals:ident $held:ident $out:ident) $decl:ident) => {
-        Next::Stands
+    (Xchg ($program:ident $pc:ident $words:ident $top:ident $locals:ident $held:ident $cells:ident $left:ident $out:ident) $decl:ident) => {
+        if $left == 0 {
+            Next::Stands
+        } else {
+            let change = Change::Store($top.pop($words));
+            $top.push($words, update($cells, $program.first_cell($decl), change));
+            Next::Passes
+        }
     };
-    (AddTo ($program:ident $pc:ident $words:ident $top:ident $locals:ident $held:ident $out:ident) $decl:ident) => {
-        Next::Stands
+    (AddTo ($program:ident $pc:ident $words:ident $top:ident $locals:ident $held:ident $cells:ident $left:ident $out:ident) $decl:ident) => {
+        if $left == 0 {
+            Next::Stands
+        } else {
+            let change = Change::Plus($top.pop($words));
+            $top.push($words, update($cells, $program.first_cell($decl), change));
+            Next::Passes
+        }
     };
-    (Cas ($program:ident $pc:ident $words:ident $top:ident $locals:ident $held:ident $out:ident) $decl:ident) => {
-        Next::Stands
+    (Cas ($program:ident $pc:ident $words:ident $top:ident $locals:ident $held:ident $cells:ident $left:ident $out:ident) $decl:ident) => {
+        if $left == 0 {
+            Next::Stands
+        } else {
+            let new = $top.pop($words);
+            let expected = $top.pop($words);
+            let change = Change::IfEqual { expected, new };
+            $top.push($words, update($cells, $program.first_cell($decl), change));
+            Next::Passes
+        }
     };
-    (Enter ($program:ident $pc:ident $words:ident $top:ident $locals:ident $held:ident $out:ident) $monitor:ident) => {
+    (Enter ($program:ident $pc:ident $words:ident $top:ident $locals:ident $held:ident $cells:ident $left:ident $out:ident) $monitor:ident) => {
         if $held[monitor_index($program, $monitor)] {
             Next::Ends(trapped(Trap::Again, $pc))
         } else {
             Next::Stands
         }
     };
-    (Exit ($program:ident $pc:ident $words:ident $top:ident $locals:ident $held:ident $out:ident) $monitor:ident) => {
+    (Exit ($program:ident $pc:ident $words:ident $top:ident $locals:ident $held:ident $cells:ident $left:ident $out:ident) $monitor:ident) => {
         if $held[monitor_index($program, $monitor)] {
             Next::Stands
         } else {
@@ -205,14 +258,14 @@ macro_rules! stands {
 }
 
 macro_rules! prints {
-    (Print ($program:ident $pc:ident $words:ident $top:ident $locals:ident $held:ident $out:ident) $value:ident) => {{
+    (Print ($program:ident $pc:ident $words:ident $top:ident $locals:ident $held:ident $cells:ident $left:ident $out:ident) $value:ident) => {{
         push_line($out, $top.pop($words));
         Next::Goes($pc + 1)
     }};
 }
 
 macro_rules! halts {
-    (Halt ($program:ident $pc:ident $words:ident $top:ident $locals:ident $held:ident $out:ident) $value:ident) => {
+    (Halt ($program:ident $pc:ident $words:ident $top:ident $locals:ident $held:ident $cells:ident $left:ident $out:ident) $value:ident) => {
         Next::Ends(end_of_halt($held, $pc))
     };
 }
@@ -486,7 +539,20 @@ fn monitor_index(program: &Checked, monitor: u32) -> usize
     monitor as usize
 }
 
-/// Executes a local instruction, or tells of a shared one, at which the thread stands.
+// Makes an update of this cell, and tells the value that it had.
+#[inline(always)]
+fn update(cells: &mut [u64], cell: u32, change: Change) -> u64
+    requires { cell < length cells.old }
+    ensures old { result ≡ slice_index cells.old cell }
+    ensures stored { cells.new ≡ slice_set cells.old cell (applied change (slice_index cells.old cell)) }
+{
+    let old = cells[cell as usize];
+    cells[cell as usize] = change.applied(old);
+    old
+}
+
+/// Executes a local instruction, or an access where so many turns are left that there is one, or tells of a shared one, at
+/// which the thread stands.
 #[inline(always)]
 pub fn execute(
     op: &Op,
@@ -496,6 +562,8 @@ pub fn execute(
     top: &mut Top,
     locals: &mut [u64; LOCAL_COUNT],
     held: &[bool; MONITOR_LIMIT],
+    cells: &mut [u64],
+    left: u32,
     out: &mut List<u8>,
 ) -> Next
     requires position { pc < INSTRUCTION_LIMIT }
@@ -503,9 +571,11 @@ pub fn execute(
     requires room { depth_after op.now (length (operands words.old top.old.depth)) ≤ STACK_LIMIT }
     requires names { Names program.now op.now }
     requires spare { LINE_LIMIT ≤ out.old.spare }
-    ensures made { Made (row program.now op.now pc (operands words.old top.old.depth) locals.old held.now) result (operands words.old top.old.depth) (operands words.new top.new.depth) locals.old locals.new out.old out.new }
+    requires cells { 0 < left → cell_count program.now.decls ≤ length cells.old }
+    ensures done { Executed program.now op.now (row program.now op.now pc (operands words.old top.old.depth) locals.old held.now) held.now left result
+        (operands words.old top.old.depth) (operands words.new top.new.depth) locals.old locals.new cells.old cells.new out.old out.new }
 {
-    instructions!(arms!((program pc words top locals held out) op))
+    instructions!(arms!((program pc words top locals held cells left out) op))
 }
 
 /// Where the thread stands at this instruction. One that is local or traps reads as if the thread had halted.

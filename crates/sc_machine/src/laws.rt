@@ -1,5 +1,5 @@
 //! Laws of the machine, over its definitions alone. Each is the contract of a function that does nothing.
-ghost use Rattle.sc_machine.specs.Laws.{TurnsAreSteps, RefusedWhereStuck, TurnsJoin, MadeAlongTurns, RefusedAlongTurns, StartsSettle, TurnByStop, MovedKeepsFuel, SettledKeepsFuel, AnsweredHasFuel, SettledMakesNoLess, SettledStands, SettledPrints, OutputsAreLines};
+ghost use Rattle.sc_machine.specs.Laws.{TurnsAreSteps, RefusedWhereStuck, TurnsJoin, MadeAlongTurns, RefusedAlongTurns, StartsSettle, TurnByStop, MovedKeepsFuel, SettledKeepsFuel, AnsweredHasFuel, SettledMakesNoLess, SettledStands, SettledPrints, OutputsAreLines, TurnsInARow, TurnsPrint};
 
 /// The single steps of a schedule do what its whole turns do, after the local starts.
 pub fn turns_are_steps()
@@ -57,4 +57,14 @@ pub fn settled_prints()
 /// The output of each thread of a run is its lines of the transcript.
 pub fn outputs_are_lines()
     ensures { OutputsAreLines }
+{}
+
+/// Turns of one thread in a row, each at a read, a write or an update, are turns of the machine.
+pub fn turns_in_a_row()
+    ensures { TurnsInARow }
+{}
+
+/// What a thread prints in turns in a row is its lines of the transcript.
+pub fn turns_print()
+    ensures { TurnsPrint }
 {}

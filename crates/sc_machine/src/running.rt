@@ -1,10 +1,10 @@
 //! The loop that runs a thread up to where it stands.
 ghost use Rattle.std.specs.Prelude.{◌≡◌, ◌+◌, ◌-◌, ◌*◌, ◌<◌, ◌≤◌, None, length};
-ghost use Rattle.stride_isa.specs.Listing.{code_of, op_at};
+ghost use Rattle.stride_isa.specs.Listing.{cell_count, code_of, op_at};
 ghost use Rattle.stride_isa.specs.Validity.{IsFine, Reaches};
 ghost use Rattle.sc_machine.specs.Operands.{operands};
 ghost use Rattle.sc_machine.specs.ThreadStep.{done_held, done_stack};
-ghost use Rattle.sc_machine.specs.Running.{RanOn, going, thread_with};
+ghost use Rattle.sc_machine.specs.Running.{RanOn, RanTurns, going, thread_with};
 ghost use Rattle.sc_machine.specs.ThreadRunInside.{IsRun};
 
 use crate::end::End;
@@ -70,7 +70,37 @@ pub fn run_on(
     ensures spare { LINE_LIMIT * (task.entry.fuel - result.0.made) ≤ out.new.spare }
     ensures used { out.new.spare + length out.new.items ≡ out.old.spare + length out.old.items }
 {
+    let (at, _, ended) = run_turns(task, from, 0, words, locals, held, &mut [], out);
+    (at, ended)
+}
+
+/// Makes local instructions from this place, and accesses to the cells while turns are left, up to where the thread stands
+/// then. It tells where that is, how many turns are left, and the end.
+#[inline(always)]
+pub fn run_turns(
+    task: Task<'_>,
+    from: Cursor,
+    limit: u32,
+    words: &mut [u64; STACK_LIMIT],
+    locals: &mut [u64; LOCAL_COUNT],
+    held: &[bool; MONITOR_LIMIT],
+    cells: &mut [u64],
+    out: &mut List<u8>,
+) -> (Cursor, u32, Option<End>)
+    requires run { IsRun task.program.now task.thread task.fuel from.pc from.top.depth from.made None }
+    requires cells { 0 < limit → cell_count task.program.now.decls ≤ length cells.old }
+    requires spare { LINE_LIMIT * (task.fuel - from.made) ≤ out.old.spare }
+    ensures ran { RanTurns task.entry.program.now task.entry.fuel task.entry.thread limit result.1
+        (going from words.old locals.old held.now out.old.items) cells.old
+        (thread_with result.2 result.0 words.new locals.new held.now out.new.items) cells.new }
+    ensures run { IsRun task.entry.program.now task.entry.thread task.entry.fuel result.0.pc result.0.top.depth result.0.made result.2 }
+    ensures made { from.made ≤ result.0.made }
+    ensures spare { LINE_LIMIT * (task.entry.fuel - result.0.made) ≤ out.new.spare }
+    ensures used { out.new.spare + length out.new.items ≡ out.old.spare + length out.old.items }
+    ensures whole { length cells.new ≡ length cells.old }
+{
     let mut at = from;
+    let mut left = limit;
     'instructions: loop {
         let op = task.op(at.pc);
         match execute(
@@ -81,20 +111,30 @@ pub fn run_on(
             &mut at.top,
             locals,
             held,
+            cells,
+            left,
             out,
         ) {
             Next::Goes(next) => {
                 at.pc = next;
                 at.made += 1;
                 if at.made >= task.fuel {
-                    return (at, Some(End::OutOfSteps));
+                    return (at, left, Some(End::OutOfSteps));
+                }
+            }
+            Next::Passes => {
+                at.pc += 1;
+                at.made += 1;
+                left -= 1;
+                if at.made >= task.fuel {
+                    return (at, left, Some(End::OutOfSteps));
                 }
             }
             Next::Ends(end) => {
                 at.made += 1;
-                return (at, Some(end));
+                return (at, left, Some(end));
             }
-            Next::Stands => return (at, None),
+            Next::Stands => return (at, left, None),
         }
     }
 }

@@ -1,9 +1,11 @@
 //! A thread that stands, with what it printed.
 ghost use Rattle.std.specs.Prelude.{◌≡◌, ◌<◌, ◌≤◌, IfOk, length, unwrap_or};
 ghost use Rattle.sc_machine.specs.Schedule.{stopped};
-ghost use Rattle.sc_machine.specs.StandingThread.{started_at, standing_after, stop_here};
+ghost use Rattle.sc_machine.specs.StandingThread.{IsThreadOf, started_at, standing_after, stop_here};
 ghost use Rattle.sc_machine.specs.ThreadRun.{IsShared, NamesCell, TakesWord, state};
 ghost use Rattle.sc_machine.specs.ThreadStep.{Stands, end_of, now};
+ghost use Rattle.sc_machine.specs.TurnsInARow.{TookTurns, beside};
+ghost use Rattle.stride_isa.specs.Listing.{cell_count};
 
 use crate::end::End;
 use crate::limits::LINE_LIMIT;
@@ -75,6 +77,19 @@ impl<'p> StandingThread<'p> {
         ensures { self.new ≡ standing_after (unwrap_or word 0) self.old }
     {
         self.run.go_on(word, &mut self.printed);
+    }
+
+    /// Takes up to this many turns of the thread in a row, each at an access to the cells, and tells how many: those before
+    /// the first stop that is no access.
+    pub fn turns(&mut self, limit: u32, cells: &mut [u64]) -> u32
+        requires { cell_count self.old.program.decls ≤ length cells.old }
+        ensures turns { TookTurns self.old.program self.old.fuel self.old.number limit result
+            (beside cells.old self.old.state) (beside cells.new self.new.state) }
+        ensures stood { now self.old.program self.old.number self.old.state ≡ Stands (stop_here self.old) }
+        ensures same { IsThreadOf self.old.program self.old.fuel self.old.number self.new }
+        ensures cells { length cells.new ≡ length cells.old }
+    {
+        self.run.turns(limit, cells, &mut self.printed)
     }
 
     /// Ends the thread at the shared instruction where it stands. The instruction is not counted.

@@ -2,13 +2,15 @@
 ghost use Rattle.std.specs.Prelude.{◌≡◌, ◌+◌, ◌-◌, ◌*◌, ◌≤◌, ◌<◌, Some, length, unwrap_or};
 ghost use Rattle.sc_machine.specs.ThreadStep.{answered, holds, settled};
 ghost use Rattle.sc_machine.specs.ThreadRun.{start_run, state, stop_at, StandsAt, SameThread, IsAnswered, IsShared, TakesWord, NamesCell};
+ghost use Rattle.sc_machine.specs.TurnsInARow.{TookTurns, beside};
 ghost use Rattle.sc_machine.specs.declared.end.End.TheVariants.{Stopped};
+ghost use Rattle.stride_isa.specs.Listing.{cell_count};
 
 use crate::end::End;
 use crate::instruction::stop_of;
 use crate::limits::LINE_LIMIT;
 use crate::operands::Top;
-use crate::running::{Cursor, completed, run_on};
+use crate::running::{Cursor, completed, run_on, run_turns};
 use crate::stop::Stop;
 use crate::task::Task;
 use std::marker::Model;
@@ -187,6 +189,37 @@ impl<'p> ThreadRun<'p> {
         if let Some(end) = ended {
             self.ended = Some(end);
         }
+    }
+
+    /// Takes up to this many turns of the thread, which stands, in a row, each at an access to the cells, and tells how many.
+    #[inline(never)]
+    pub(crate) fn turns(&mut self, limit: u32, cells: &mut [u64], out: &mut List<u8>) -> u32
+        requires stands { StandsAt self.old (stop_at self.old) }
+        requires cells { cell_count self.old.program.decls ≤ length cells.old }
+        requires spare { LINE_LIMIT * (self.old.fuel - self.old.made) ≤ out.old.spare }
+        ensures turns { TookTurns self.old.program self.old.fuel self.old.thread limit result
+            (beside cells.old (state self.old out.old.items)) (beside cells.new (state self.new out.new.items)) }
+        ensures stands { StandsAt self.new (stop_at self.new) }
+        ensures same { SameThread self.old self.new }
+        ensures spare { LINE_LIMIT * (self.new.fuel - self.new.made) ≤ out.new.spare }
+        ensures cells { length cells.new ≡ length cells.old }
+    {
+        if self.ended.is_some() {
+            return 0;
+        }
+        let (at, left, ended) = run_turns(
+            self.task,
+            self.at,
+            limit,
+            &mut self.words,
+            &mut self.locals,
+            &self.held,
+            cells,
+            out,
+        );
+        self.at = at;
+        self.ended = ended;
+        limit - left
     }
 
     /// Ends the thread at the shared instruction where it stands. The instruction is not counted.

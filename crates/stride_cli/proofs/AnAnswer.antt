@@ -3,13 +3,12 @@ use Rattle.std.proofs.Common.{◌≡◌, ◌⊎◌, inl, inr, ℕ, Bool, true, f
 use Rattle.std.specs.Bool.{MatchBool}
 use Rattle.stride_base.specs.declared.limits.TheConstants.{INPUT_LIMIT}
 use Rattle.stride_isa.specs.Faults.{Fault, IsVerdict}
-use Rattle.stride_isa.specs.Laws.{EachCellStarts, HasVerdict}
+use Rattle.stride_isa.specs.Laws.{HasVerdict}
 use Rattle.stride_isa.specs.Listing.{Listing}
 use Rattle.stride_isa.specs.Validity.{IsValid}
 use Rattle.assembler.specs.Programs.{LineFault, spelled}
 use Rattle.interleavings.specs.declared.traces.Place.{Place}
 use Rattle.interleavings.specs.Following.{Divergence, Followed, follow_all}
-use Rattle.interleavings.specs.Laws.{FollowedWalks}
 use Rattle.interleavings.specs.TraceLists.{TraceLists}
 use Rattle.linkage.specs.Answers.{IsWhole}
 use Rattle.linkage.specs.Laws.{LinksOrRefusal}
@@ -17,9 +16,10 @@ use Rattle.linkage.specs.Refusals.{IsFirstRefusal}
 use Rattle.linkage.specs.declared.link_error.LinkError.{LinkError}
 use Rattle.event_order.specs.Cycles.{IsCycle, IsTheCycle}
 use Rattle.event_order.specs.DirectOrder.{LinkRows}
-use Rattle.event_order.specs.Laws.{ExtensionsAreRuns, IsRunOf, LeastOrCycle, traces_of}
+use Rattle.event_order.specs.Laws.{ExtensionsAreRuns, LeastOrCycle, traces_of}
 use Rattle.event_order.specs.Least.{IsLeast}
 use Rattle.log_format.specs.Bundles.{Bundled}
+use Rattle.log_format.specs.Laws.{FuelIsInRange}
 use Rattle.log_format.specs.Reading.{reading, Refusal as FormatRefusal}
 use Rattle.stride_cli.specs.declared.words.Command.{Command}
 use Rattle.stride_cli.specs.declared.words.Command.TheVariants.{Check, Follow, Infer, Replay, Show, Sim, Upgrade}
@@ -29,21 +29,21 @@ use Rattle.stride_cli.specs.Inferring.{Circular, Diverging, Inference, Inferred,
 use Rattle.stride_cli.specs.Laws.{AnAnswer}
 use Rattle.stride_cli.specs.Reports.{infer_report, replay_report}
 use Rattle.stride_cli.specs.Words.{command_named}
-use Rattle.stride_cli.proofs.FollowedRanges.{followed_in_range}
-use Rattle.stride_cli.proofs.Fuels.{read_some}
+use Rattle.stride_cli.proofs.LeastRuns.{least_runs}
+use Rattle.stride_cli.proofs.Simulations.{Laws as Recorded, simulation}
 
 text_answer : HasVerdict → (text : List ℕ) (s : Result Listing LineFault) (accepted : Listing → Answer) → (answer : Answer) × AnswersSpelled text s accepted answer
 text_answer each text (Err fault) accepted = (refused_text fault, refl)
 text_answer each text (Ok p) accepted = let judgement = each p in (judged text judgement.0 (accepted p), (judgement.0, (judgement.1, refl)))
 
--- what the laws say of linking, of the direct order and of threads that are followed
+-- what the laws say of verdicts, of bundles, of linking, of the direct order and of recordings
 pub record Laws : Type 0 where
   pub verdict : HasVerdict
   pub links : LinksOrRefusal
   pub order : LeastOrCycle
   pub runs : ExtensionsAreRuns
-  pub walks : FollowedWalks
-  pub starts : EachCellStarts
+  pub fuel : FuelIsInRange
+  pub recordings : Recorded
 
 -- events come to something
 by_order : (traces : TraceLists) (links : LinkRows) → IsWhole traces links → ((schedule : List ℕ) × IsLeast traces links schedule) ⊎ ((cycle : List Place) × IsTheCycle traces links cycle × IsCycle traces links cycle) → (inference : Inference) × IsInferredOf traces inference
@@ -70,11 +70,8 @@ module _ (there : Laws) (bytes : List ℕ) where
   -- the least schedule of threads that were followed has a run
   shown_order : (bundle : Bundled) → reading bytes ≡ Ok bundle → (p : Listing) → IsValid p → (all : List Followed) → follow_all p bundle.fuel bundle.logs ≡ Ok all → (inferred : Inferred) → IsInferredOf (traces_of p all) (Ordered inferred) → (answer : Answer) × AnswersRun p bundle inferred answer
   shown_order bundle reads p valid all follows inferred is =
-      let some = read_some bytes bundle reads in
-      let range = followed_in_range there.walks there.starts p valid bundle.fuel some bundle.logs all follows in
-      let Q : List ℕ → Type 0 = λ schedule. IsRunOf p bundle.fuel all schedule in
-      let run = subst Q (sym is.1.of_places) (there.runs p bundle.fuel bundle.logs all inferred.links is.1.places some follows is.0.unrefused range is.0.linked is.1.extends) in
-      (done (replay_report inferred.schedule run.machine), record { all = all; follows = follows; run = run; shows = refl })
+      let run = least_runs there.runs p valid bundle.fuel (there.fuel bytes bundle reads).0 bundle.logs all follows inferred is in
+      (done (replay_report inferred.schedule run.machine), record { machine = run.machine; runs = run.runs; shows = refl })
 
   by_followed : (bundle : Bundled) → reading bytes ≡ Ok bundle → (p : Listing) → IsValid p → (r : Result (List Followed) Divergence) → follow_all p bundle.fuel bundle.logs ≡ r → (inferred : Inferred) → IsInferredBy p r (Ordered inferred) → (answer : Answer) × AnswersRun p bundle inferred answer
   by_followed bundle reads p valid (Err divergence) follows inferred is = absurd (cc)
@@ -112,7 +109,7 @@ module _ (there : Laws) (bytes : List ℕ) where
 input_answer : Laws → (command : Command) (bytes : List ℕ) → (answer : Answer) × AnswersInput command bytes answer
 input_answer there Check bytes = text_answer there.verdict bytes (spelled bytes) _
 input_answer there Follow bytes = text_answer there.verdict (program_part bytes) (spelled (program_part bytes)) _
-input_answer there Sim bytes = text_answer there.verdict (program_part bytes) (spelled (program_part bytes)) _
+input_answer there Sim bytes = simulation there.recordings there.verdict bytes
 input_answer there Show bytes = (shown (reading bytes), refl)
 input_answer there Upgrade bytes = (upgraded (reading bytes), refl)
 input_answer there Infer bytes = bundle_answer there bytes AnswersLinks (shown_links there bytes) (reading bytes) refl

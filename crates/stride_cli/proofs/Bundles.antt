@@ -32,7 +32,7 @@ by_verdict text (Some fault) Accepted status other is = is
 by_verdict text None Accepted status other is = absurd (other (ap (λ (answer : Answer). answer.status) is))
 
 -- a refusal of a text is one whatever is answered to a valid program
-unaccepted : (text : List ℕ) (s : Result Listing LineFault) (Accepted : Listing → Answer → Type 0) (status : Status) → (status ≡ Done → ⊥) → AnswersSpelled text s (λ p. done []) (refused status) → AnswersProgram text s Accepted (refused status)
+pub unaccepted : (text : List ℕ) (s : Result Listing LineFault) (Accepted : Listing → Answer → Type 0) (status : Status) → (status ≡ Done → ⊥) → AnswersSpelled text s (λ p. done []) (refused status) → AnswersProgram text s Accepted (refused status)
 unaccepted text (Err fault) Accepted status other is = is
 unaccepted text (Ok p) Accepted status other is = (is.0, (is.1.0, by_verdict text is.0 (Accepted p) status other is.1.1))
 
@@ -41,7 +41,7 @@ not_by_verdict : (text : List ℕ) (verdict : Option Fault) (status : Status) �
 not_by_verdict text (Some fault) status done program is = program _ (ap (λ (answer : Answer). answer.status) is)
 not_by_verdict text None status done program is = done (ap (λ (answer : Answer). answer.status) is)
 
-only_programs : (text : List ℕ) (s : Result Listing LineFault) (status : Status) → (status ≡ Done → ⊥) → ((fault : ProgramFault) → status ≡ Program fault → ⊥) → AnswersSpelled text s (λ p. done []) (refused status) → ⊥
+pub only_programs : (text : List ℕ) (s : Result Listing LineFault) (status : Status) → (status ≡ Done → ⊥) → ((fault : ProgramFault) → status ≡ Program fault → ⊥) → AnswersSpelled text s (λ p. done []) (refused status) → ⊥
 only_programs text (Err fault) status done program is = program _ (ap (λ (answer : Answer). answer.status) is)
 only_programs text (Ok p) status done program is = not_by_verdict text is.0 status done program is.1.1
 

@@ -25,7 +25,7 @@ leads_before : (traces : TraceLists) (links : LinkRows) (places : List Place) (e
 leads_before traces links [] end leads = tt
 leads_before traces links (at ∷ rest) end leads = (leads.0.before, leads_before traces links rest end leads.1)
 
-ring_before : (traces : TraceLists) (links : LinkRows) (places : List Place) → IsRing (λ before after. StepsBack traces links after before) places → IsCycle traces links places
+pub ring_before : (traces : TraceLists) (links : LinkRows) (places : List Place) → IsRing (λ before after. StepsBack traces links after before) places → IsCycle traces links places
 ring_before traces links [] ring = ring
 ring_before traces links (at ∷ rest) ring = leads_before traces links (at ∷ rest) at ring
 

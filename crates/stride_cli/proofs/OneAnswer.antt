@@ -6,16 +6,20 @@ use Rattle.stride_isa.specs.Faults.{Fault}
 use Rattle.stride_isa.specs.Laws.{OneVerdict}
 use Rattle.stride_isa.specs.Listing.{Listing}
 use Rattle.sc_machine.specs.Machine.{Machine}
+use Rattle.sc_machine.specs.Schedule.{replayed}
+use Rattle.interleavings.specs.Driving.{driven, stranger}
 use Rattle.interleavings.specs.Following.{follow_all}
+use Rattle.interleavings.specs.Recording.{Recording}
 use Rattle.log_format.specs.Bundles.{Bundled}
 use Rattle.log_format.specs.Reading.{reading, Refusal as FormatRefusal}
 use Rattle.assembler.specs.Programs.{LineFault, spelled}
 use Rattle.stride_cli.specs.declared.words.Command.{Command}
 use Rattle.stride_cli.specs.declared.words.Command.TheVariants.{Check, Follow, Infer, Replay, Show, Sim, Upgrade}
-use Rattle.stride_cli.specs.Answers.{Answer, AnswersBundle, AnswersBy, AnswersInference, AnswersInput, AnswersLinks, AnswersLogs, AnswersProgram, AnswersRun, AnswersSpelled, AnswersVerdict, done, judged, program_part}
+use Rattle.stride_cli.specs.Answers.{Answer, AnswersBundle, AnswersBy, AnswersInference, AnswersInput, AnswersLinks, AnswersLogs, AnswersOrder, AnswersProgram, AnswersRecorded, AnswersRecording, AnswersRun, AnswersSimulated, AnswersSpelled, AnswersVerdict, done, judged, order_of, program_part, setting_of}
 use Rattle.stride_cli.specs.Inferring.{Circular, Diverging, Inference, Inferred, Ordered, Unlinked}
 use Rattle.stride_cli.specs.Laws.{OneAnswer}
-use Rattle.stride_cli.specs.Reports.{replay_report}
+use Rattle.stride_cli.specs.Settings.{fuel}
+use Rattle.stride_cli.specs.Reports.{replay_report, sim_report}
 use Rattle.stride_cli.specs.Words.{command_named}
 use Rattle.stride_cli.proofs.Inferences.{Laws, one_inference}
 
@@ -30,7 +34,7 @@ some_same e = cc
 -- the reports of two runs by one schedule are the same
 one_run : (p : Listing) (bundle : Bundled) (inferred : Inferred) (answer other : Answer) → AnswersRun p bundle inferred answer → AnswersRun p bundle inferred other → answer ≡ other
 one_run p bundle inferred answer other is same =
-    let machines : is.run.machine ≡ same.run.machine = some_same (sym is.run.runs ∙ same.run.runs) in
+    let machines : is.machine ≡ same.machine = some_same (sym is.runs ∙ same.runs) in
     is.shows ∙ ap (λ (m : Machine). done (replay_report inferred.schedule m)) machines ∙ sym same.shows
 
 module _ (laws : Laws) (one : OneVerdict) (Shows : Listing → Bundled → Inferred → Answer → Type 0) (alone : (p : Listing) (bundle : Bundled) (inferred : Inferred) (answer other : Answer) → Shows p bundle inferred answer → Shows p bundle inferred other → answer ≡ other) where
@@ -65,10 +69,45 @@ module _ (laws : Laws) (one : OneVerdict) (Shows : Listing → Bundled → Infer
   by_reading (Err refusal) answer other is same = is ∙ sym same
   by_reading (Ok bundle) answer other is same = by_program bundle (spelled bundle.text) answer other is same
 
+-- one recording has one answer at most
+module _ (laws : Laws) (p : Listing) where
+  ordered_same : (one other : Inferred) → Ordered one ≡ Ordered other → one ≡ other
+  ordered_same one other e = cc
+
+  by_recording : (recording : Recording) (answer other : Answer) → AnswersRecording p recording answer → AnswersRecording p recording other → answer ≡ other
+  by_recording recording answer other is same =
+      let one : is.inferred ≡ same.inferred = ordered_same is.inferred same.inferred (one_inference laws p (follow_all p fuel recording.logs) (Ordered is.inferred) (Ordered same.inferred) is.ordered same.ordered) in
+      let machines : is.machine ≡ same.machine = some_same (sym is.runs ∙ ap (λ (i : Inferred). replayed p fuel i.schedule) one ∙ same.runs) in
+      is.shows
+      ∙ ap (λ (i : Inferred). done (sim_report recording.logs i.links i.schedule is.machine)) one
+      ∙ ap (λ (m : Machine). done (sim_report recording.logs same.inferred.links same.inferred.schedule m)) machines
+      ∙ sym same.shows
+
+  by_stranger : (found : Option ℕ) (recording : Recording) (answer other : Answer) → AnswersRecorded p found recording answer → AnswersRecorded p found recording other → answer ≡ other
+  by_stranger None recording answer other is same = by_recording recording answer other is same
+  by_stranger (Some place) recording answer other is same = is ∙ sym same
+
+  by_order : (r : Result (List ℕ) LineFault) (answer other : Answer) → AnswersOrder r (AnswersSimulated p) answer → AnswersOrder r (AnswersSimulated p) other → answer ≡ other
+  by_order (Err fault) answer other is same = is ∙ sym same
+  by_order (Ok order) answer other is same = by_stranger (stranger (length p.threads) order) (driven (setting_of p) order) answer other is same
+
+-- one text has one answer at most, where one is answered at most to each valid program
+module _ (laws : Laws) (one : OneVerdict) (text : List ℕ) (Accepted : Listing → Answer → Type 0) (alone : (p : Listing) (answer other : Answer) → Accepted p answer → Accepted p other → answer ≡ other) where
+  verdict_once : (p : Listing) (verdict : Option Fault) (answer other : Answer) → AnswersVerdict text verdict (Accepted p) answer → AnswersVerdict text verdict (Accepted p) other → answer ≡ other
+  verdict_once p (Some fault) answer other is same = is ∙ sym same
+  verdict_once p None answer other is same = alone p answer other is same
+
+  program_once : (s : Result Listing LineFault) (answer other : Answer) → AnswersProgram text s Accepted answer → AnswersProgram text s Accepted other → answer ≡ other
+  program_once (Err fault) answer other is same = is ∙ sym same
+  program_once (Ok p) answer other is same =
+      let P : Option Fault → Type 0 = λ verdict. AnswersVerdict text verdict (Accepted p) answer in
+      verdict_once p same.0 answer other (subst P (one p is.0 same.0 is.1.0 same.1.0) is.1.1) same.1.1
+
 one_input : Laws → OneVerdict → (command : Command) (bytes : List ℕ) (answer other : Answer) → AnswersInput command bytes answer → AnswersInput command bytes other → answer ≡ other
 one_input laws one Check bytes answer other is same = one_text one bytes (spelled bytes) _ answer other is same
 one_input laws one Follow bytes answer other is same = one_text one (program_part bytes) (spelled (program_part bytes)) _ answer other is same
-one_input laws one Sim bytes answer other is same = one_text one (program_part bytes) (spelled (program_part bytes)) _ answer other is same
+one_input laws one Sim bytes answer other is same =
+    program_once laws one (program_part bytes) (λ p. AnswersOrder (order_of bytes) (AnswersSimulated p)) (λ p answer other is same. by_order laws p (order_of bytes) answer other is same) (spelled (program_part bytes)) answer other is same
 one_input laws one Show bytes answer other is same = is ∙ sym same
 one_input laws one Upgrade bytes answer other is same = is ∙ sym same
 one_input laws one Infer bytes answer other is same =

@@ -6,7 +6,6 @@ use Rattle.stride_isa.specs.Listing.{Listing}
 use Rattle.sc_machine.specs.Machine.{Machine}
 use Rattle.sc_machine.specs.Schedule.{refused_place, replayed}
 use Rattle.interleavings.specs.declared.traces.Place.{Place}
-use Rattle.interleavings.specs.Following.{Followed, follow_all}
 use Rattle.interleavings.specs.Driving.{driven, stranger}
 use Rattle.interleavings.specs.Recording.{Recording, Setting}
 use Rattle.log_format.specs.Bundles.{Bundled}
@@ -21,7 +20,6 @@ use Rattle.assembler.specs.Programs.{LineFault, spelled}
 use Rattle.assembler.specs.Splits.{split}
 use Rattle.linkage.specs.declared.link_error.LinkError.{LinkError}
 use Rattle.linkage.specs.declared.link_error.LinkError.TheVariants as links
-use Rattle.event_order.specs.Laws.{IsRunOf}
 use Rattle.stride_cli.specs.declared.words.Command.{Command}
 use Rattle.stride_cli.specs.declared.words.Command.TheVariants.{Check, Follow, Infer, Replay, Show, Sim, Upgrade}
 use Rattle.stride_cli.specs.declared.status.LinkageFault.TheVariants as faults
@@ -31,7 +29,7 @@ use Rattle.stride_cli.specs.declared.status.Status.{Status}
 use Rattle.stride_cli.specs.declared.status.Status.TheVariants.{Done, Usage, TooLong, Program, Bundle, Diverges, NoLinkage, NoMemory, NotEnabled}
 use Rattle.stride_cli.specs.declared.status.ProgramFault.TheVariants.{Text, Code}
 use Rattle.stride_cli.specs.Inferring.{Inference, Unlinked, Circular, Diverging, Ordered, Inferred, IsInferred}
-use Rattle.stride_cli.specs.Reports.{follow_report, infer_report, logs_section, replay_report, show_report}
+use Rattle.stride_cli.specs.Reports.{follow_report, infer_report, replay_report, show_report, sim_report}
 use Rattle.stride_cli.specs.Settings.{fuel, patience}
 use Rattle.stride_cli.specs.Words.{command_named}
 
@@ -87,15 +85,6 @@ followed p order = played (replayed p fuel order) (refused_member p order (unwra
 abbrev pub setting_of : Listing → Setting
 setting_of p = record { program = p; fuel = fuel; patience = patience }
 
--- a recording is reported; an order that names a thread which is not there is refused at the place of its first such member
-abbrev pub recorded : Option ℕ → Recording → Answer
-recorded None recording = done (logs_section recording.logs)
-recorded (Some place) recording = refused (NotEnabled place NoThread)
-
--- what `sim` answers to an accepted program with an order
-abbrev pub simulated : Listing → List ℕ → Answer
-simulated p order = recorded (stranger (length p.threads) order) (driven (setting_of p) order)
-
 -- an answer to an order, where it is spelled, or the refusal of its first fault
 abbrev pub with_order : (List ℕ → Answer) → Result (List ℕ) LineFault → Answer
 with_order answer (Err fault) = refused_text fault
@@ -149,13 +138,11 @@ circular places = NoLinkage (faults.Cycle (record { items = places; spare = 0 })
 abbrev pub AnswersLinks : Listing → Bundled → Inferred → Answer → Type 0
 AnswersLinks p bundle inferred answer = answer ≡ done (infer_report inferred.links inferred.schedule)
 
--- what `replay` answers to them: the report of the run by the schedule, in which each thread makes exactly the events that
--- following its log gives, and prints and ends as following left it
+-- what `replay` answers to them: the report of the run by the schedule, of which there is one
 pub record AnswersRun (p : Listing) (bundle : Bundled) (inferred : Inferred) (answer : Answer) : Type 0 where
-  pub all : List Followed
-  pub follows : follow_all p bundle.fuel bundle.logs ≡ Ok all
-  pub run : IsRunOf p bundle.fuel all inferred.schedule
-  pub shows : answer ≡ done (replay_report inferred.schedule run.machine)
+  pub machine : Machine
+  pub runs : replayed p bundle.fuel inferred.schedule ≡ Some machine
+  pub shows : answer ≡ done (replay_report inferred.schedule machine)
 
 -- the answer by what logs come to, where this is what is answered to links with a schedule
 abbrev pub AnswersInference : (Inferred → Answer → Type 0) → Inference → Answer → Type 0
@@ -167,6 +154,28 @@ AnswersInference Shows (Ordered inferred) answer = Shows inferred answer
 -- the answer to the logs of a bundle with a valid program
 abbrev pub AnswersLogs : (Listing → Bundled → Inferred → Answer → Type 0) → Bundled → Listing → Answer → Type 0
 AnswersLogs Shows bundle p answer = (inference : Inference) × (IsInferred p bundle.fuel bundle.logs inference × AnswersInference (Shows p bundle) inference answer)
+
+-- what `sim` answers to a recording: its logs, the links and the schedule to which they come, and the run by the schedule
+pub record AnswersRecording (p : Listing) (recording : Recording) (answer : Answer) : Type 0 where
+  pub inferred : Inferred
+  pub ordered : IsInferred p fuel recording.logs (Ordered inferred)
+  pub machine : Machine
+  pub runs : replayed p fuel inferred.schedule ≡ Some machine
+  pub shows : answer ≡ done (sim_report recording.logs inferred.links inferred.schedule machine)
+
+-- the answer to a recording; an order that names a thread which is not there is refused at the place of its first such member
+abbrev pub AnswersRecorded : Listing → Option ℕ → Recording → Answer → Type 0
+AnswersRecorded p None recording answer = AnswersRecording p recording answer
+AnswersRecorded p (Some place) recording answer = answer ≡ refused (NotEnabled place NoThread)
+
+-- what `sim` answers to an accepted program with an order
+abbrev pub AnswersSimulated : Listing → List ℕ → Answer → Type 0
+AnswersSimulated p order answer = AnswersRecorded p (stranger (length p.threads) order) (driven (setting_of p) order) answer
+
+-- the answer to an order, where it is spelled, or the refusal of its first fault
+abbrev pub AnswersOrder : Result (List ℕ) LineFault → (List ℕ → Answer → Type 0) → Answer → Type 0
+AnswersOrder (Err fault) Answers answer = answer ≡ refused_text fault
+AnswersOrder (Ok order) Answers answer = Answers order answer
 
 -- the answer by the verdict on the program that a text spells, where this is what is answered to a valid one
 abbrev pub AnswersVerdict : List ℕ → Option Fault → (Answer → Type 0) → Answer → Type 0
@@ -187,7 +196,7 @@ AnswersBundle Shows (Ok bundle) answer = AnswersProgram bundle.text (spelled bun
 abbrev pub AnswersInput : Command → List ℕ → Answer → Type 0
 AnswersInput Check bytes answer = AnswersText bytes (λ p. done (canonical p)) answer
 AnswersInput Follow bytes answer = AnswersText (program_part bytes) (λ p. with_order (followed p) (order_of bytes)) answer
-AnswersInput Sim bytes answer = AnswersText (program_part bytes) (λ p. with_order (simulated p) (order_of bytes)) answer
+AnswersInput Sim bytes answer = AnswersProgram (program_part bytes) (spelled (program_part bytes)) (λ p. AnswersOrder (order_of bytes) (AnswersSimulated p)) answer
 AnswersInput Show bytes answer = answer ≡ shown (reading bytes)
 AnswersInput Upgrade bytes answer = answer ≡ upgraded (reading bytes)
 AnswersInput Infer bytes answer = AnswersBundle AnswersLinks (reading bytes) answer

@@ -1,15 +1,19 @@
 -- What holds of the answers to words and bytes.
-use Rattle.std.specs.Prelude.{◌≡◌, ℕ, List, Ok, Some}
+use Rattle.std.specs.Prelude.{◌≡◌, ℕ, List, Ok, None, Some, length}
 use Rattle.stride_isa.specs.Listing.{Listing}
 use Rattle.stride_isa.specs.Validity.{IsValid}
+use Rattle.interleavings.specs.Driving.{driven, stranger, whole_run}
 use Rattle.interleavings.specs.Following.{Followed, follow_all}
+use Rattle.interleavings.specs.Recording.{IsFollowed}
 use Rattle.log_format.specs.Bundles.{Bundled}
 use Rattle.log_format.specs.Reading.{reading}
 use Rattle.assembler.specs.Programs.{spelled}
-use Rattle.event_order.specs.Laws.{IsRunOf}
-use Rattle.stride_cli.specs.declared.words.Command.TheVariants.{Replay}
-use Rattle.stride_cli.specs.Answers.{Answer, IsAnswer, done}
-use Rattle.stride_cli.specs.Reports.{replay_report}
+use Rattle.event_order.specs.DirectOrder.{LinkRows}
+use Rattle.event_order.specs.Laws.{RunsAsFollowed}
+use Rattle.stride_cli.specs.declared.words.Command.TheVariants.{Replay, Sim}
+use Rattle.stride_cli.specs.Answers.{Answer, IsAnswer, done, order_of, program_part, setting_of}
+use Rattle.stride_cli.specs.Reports.{replay_report, sim_report}
+use Rattle.stride_cli.specs.Settings.{fuel}
 use Rattle.stride_cli.specs.Words.{command_named}
 
 -- words and bytes have an answer
@@ -32,8 +36,28 @@ pub record IsReplayed (bytes report : List ℕ) : Type 0 where
   pub all : List Followed
   pub follows : follow_all program bundle.fuel bundle.logs ≡ Ok all
   pub schedule : List ℕ
-  pub run : IsRunOf program bundle.fuel all schedule
+  pub run : RunsAsFollowed program bundle.fuel all schedule
   pub shows : report ≡ replay_report schedule run.machine
+
+-- the bytes are a valid program with an order that names its threads alone; the report tells of the logs of the recording that the
+-- order gives, of the links of its events, and of a schedule and its run on the sequentially consistent machine, in which each
+-- thread makes exactly the events that the steps of the recording finished, and is left with its recorded output and end
+pub record IsSimulated (bytes report : List ℕ) : Type 0 where
+  pub program : Listing
+  pub spells : spelled (program_part bytes) ≡ Ok program
+  pub valid : IsValid program
+  pub order : List ℕ
+  pub ordered : order_of bytes ≡ Ok order
+  pub known : stranger (length program.threads) order ≡ None
+  pub followed : IsFollowed (setting_of program) (driven (setting_of program) order) (whole_run (setting_of program) order).steps
+  pub links : LinkRows
+  pub schedule : List ℕ
+  pub run : RunsAsFollowed program fuel followed.followed schedule
+  pub shows : report ≡ sim_report (driven (setting_of program) order).logs links schedule run.machine
+
+-- whatever bytes `sim` is done with, it reports such a recording and its run
+abbrev pub SimulationsAreRuns : Type 0
+SimulationsAreRuns = (words : List (List ℕ)) (bytes report : List ℕ) → command_named words ≡ Some Sim → IsAnswer words bytes (done report) → IsSimulated bytes report
 
 -- whatever bytes `replay` is done with, it reports such a run
 abbrev pub ReplaysAreRuns : Type 0

@@ -1,5 +1,6 @@
 -- How many looks at events and links a command takes at most.
-use Rattle.std.specs.Prelude.{ℕ, ◌+◌, List, Option, Some, None, Result, Ok, Err}
+use Rattle.std.specs.Prelude.{ℕ, ◌+◌, ◌*◌, List, Option, Some, None, Result, Ok, Err}
+use Rattle.stride_isa.specs.Limits.{fuel_limit, thread_limit}
 use Rattle.stride_isa.specs.Listing.{Listing}
 use Rattle.interleavings.specs.Following.{Divergence, Followed, follow_all}
 use Rattle.interleavings.specs.TraceLists.{TraceLists}
@@ -10,6 +11,9 @@ use Rattle.linkage.specs.Links.{most_looks as most_looks_of_linking}
 use Rattle.linkage.specs.Sources.{event_count}
 use Rattle.event_order.specs.Answers.{most_looks as most_looks_of_order}
 use Rattle.event_order.specs.Laws.{traces_of}
+use Rattle.interleavings.specs.Driving.{driven}
+use Rattle.stride_cli.specs.Answers.{order_of, program_part, setting_of}
+use Rattle.stride_cli.specs.Settings.{fuel}
 use Rattle.stride_cli.specs.declared.refusal.Refusal.{Refusal}
 use Rattle.stride_cli.specs.declared.refusal.Refusal.TheVariants as refusals
 use Rattle.stride_cli.specs.declared.status.Status.{Status}
@@ -40,13 +44,19 @@ abbrev pub bundle_looks : (TraceLists → ℕ) → Result Bundled FormatRefusal 
 bundle_looks share (Ok bundle) = spelled_looks share bundle (spelled bundle.text)
 bundle_looks share (Err refusal) = 0
 
+-- the share of a program with an order: that of the logs that the order gives; none where one of them is not spelled
+abbrev pub simulated_looks : Result (List ℕ) LineFault → Result Listing LineFault → ℕ
+simulated_looks (Ok order) (Ok p) = followed_looks printing_looks p (follow_all p fuel (driven (setting_of p) order).logs)
+simulated_looks (Ok order) (Err fault) = 0
+simulated_looks (Err fault) spelling = 0
+
 -- the share of a command
 abbrev pub command_looks : Command → List ℕ → ℕ
 command_looks Infer bytes = bundle_looks printing_looks (reading bytes)
 command_looks Replay bytes = bundle_looks inferring_looks (reading bytes)
 command_looks Check bytes = 0
 command_looks Follow bytes = 0
-command_looks Sim bytes = 0
+command_looks Sim bytes = simulated_looks (order_of bytes) (spelled (program_part bytes))
 command_looks Show bytes = 0
 command_looks Upgrade bytes = 0
 
@@ -55,12 +65,16 @@ abbrev pub most_looks : Option Command → List ℕ → ℕ
 most_looks None bytes = 0
 most_looks (Some command) bytes = command_looks command bytes
 
+-- the greatest share of any command on any input: that of as many events as all threads of a program have fuel
+abbrev pub greatest_looks : ℕ
+greatest_looks = 129 * (thread_limit * fuel_limit) + 128
+
 -- a fact where the command links nothing
 abbrev pub OnUnlinking : Option Command → Type 0 → Type 0
 OnUnlinking None fact = fact
 OnUnlinking (Some Check) fact = fact
 OnUnlinking (Some Follow) fact = fact
-OnUnlinking (Some Sim) fact = fact
+OnUnlinking (Some Sim) fact = Unit {0}
 OnUnlinking (Some Show) fact = fact
 OnUnlinking (Some Upgrade) fact = fact
 OnUnlinking (Some Infer) fact = Unit {0}

@@ -115,6 +115,10 @@ schedule_section schedule = codes "schedule " ++ (decimal (length schedule) ++ (
 abbrev pub infer_report : List (List (Option ℕ)) → List ℕ → List ℕ
 infer_report links schedule = links_section links ++ schedule_section schedule
 
+-- the report of `sim` on logs, the links of their events, the schedule and the machine at the end of its run
+abbrev pub sim_report : List (List LogEntry) → List (List (Option ℕ)) → List ℕ → Machine → List ℕ
+sim_report logs links schedule m = logs_section logs ++ (links_section links ++ (schedule_section schedule ++ follow_report m))
+
 -- the report of `replay` on a schedule and the machine at the end of its run
 abbrev pub replay_report : List ℕ → Machine → List ℕ
 replay_report schedule m = schedule_section schedule ++ follow_report m

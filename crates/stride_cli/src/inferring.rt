@@ -1,5 +1,6 @@
 //! What the logs of a bundle come to: an order of all events, or why there is none.
-ghost use Rattle.std.specs.Prelude.{◌≡◌, ◌+◌, ◌≤◌, length, IfOk, IfErr};
+ghost use Rattle.std.specs.Prelude.{◌≡◌, ◌+◌, ◌*◌, ◌≤◌, length, IfOk, IfErr};
+ghost use Rattle.linkage.specs.Sources.{event_count};
 ghost use Rattle.stride_cli.specs.Bundles.{IsRerun, RefusesEvents};
 ghost use Rattle.stride_cli.specs.Gives.{Refuses};
 ghost use Rattle.stride_cli.specs.Inferring.{IsInferredOf, Ordered};
@@ -17,6 +18,7 @@ use std::sync::ledger::Ledger;
 use stride_base::limits::INPUT_LIMIT;
 use stride_base::{List, Steps};
 use stride_isa::Checked;
+use stride_isa::limits::{FUEL_LIMIT, THREAD_LIMIT};
 use thread_rerun::rerun;
 
 /// An accepted program with its fuel, and the events of its threads.
@@ -27,15 +29,18 @@ pub struct Rerunning {
     pub traces: Traces,
 }
 
-/// Runs the threads of a bundle's program again, each by its log.
-pub fn rerun_bundle(alloc: Global, bytes: &[u8]) -> Result<Rerunning, Refusal>
-    requires { length bytes.now ≤ INPUT_LIMIT }
-    ensures rerun { IfOk result (λ rerun. IsRerun bytes.now rerun.program rerun.fuel rerun.traces) }
-    ensures infer { IfErr result (Refuses Infer bytes.now) }
-    ensures replay { IfErr result (Refuses Replay bytes.now) }
+/// Runs the threads of a bundle's program again, each by its log. The bytes are let go, since what follows wants much memory.
+pub fn rerun_bundle(alloc: Global, bytes: List<u8>) -> Result<Rerunning, Refusal>
+    requires { length bytes.items ≤ INPUT_LIMIT }
+    ensures rerun { IfOk result (λ rerun. IsRerun bytes.items rerun.program rerun.fuel rerun.traces) }
+    ensures few { IfOk result (λ rerun. event_count rerun.traces ≤ THREAD_LIMIT * FUEL_LIMIT) }
+    ensures infer { IfErr result (Refuses Infer bytes.items) }
+    ensures replay { IfErr result (Refuses Replay bytes.items) }
 {
-    let bundle = decode(alloc, bytes)?;
-    let program = accept(alloc, bundle.text.as_slice())?;
+    let all = bytes.as_slice();
+    let bundle = decode(alloc, all)?;
+    let text = bundle.text.as_slice();
+    let program = accept(alloc, text)?;
     let rerun = rerun(alloc, &program, bundle.fuel, &bundle.logs)?;
     // The number isn't wanted here; the call tells that the events are within the limits.
     rerun.traces.threads();

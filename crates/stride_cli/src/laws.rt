@@ -1,16 +1,20 @@
 //! Laws of answers, each as the contract of a function that does nothing.
-ghost use Rattle.stride_cli.specs.Laws.{AnAnswer, OneAnswer, ReplaysAreRuns};
+ghost use Rattle.stride_cli.specs.Laws.{AnAnswer, OneAnswer, ReplaysAreRuns, SimulationsAreRuns};
 
 /// The words and the bytes of an input have an answer.
 pub fn an_answer()
     ensures { AnAnswer }
 {
     stride_isa::some_verdict();
+    log_format::fuel_is_in_range();
+    interleavings::driven_is_a_history();
+    interleavings::driven_is_followed();
     linkage::links_or_refusal();
     event_order::least_or_cycle();
     event_order::extensions_are_runs();
-    interleavings::followed_walks();
-    stride_isa::each_cell_starts();
+    event_order::followed_are_in_range();
+    history_laws::recordings_are_histories();
+    history_laws::histories_have_orders();
 }
 
 /// The words and the bytes of an input have one answer at most.
@@ -29,4 +33,16 @@ pub fn one_answer()
 /// the events of its log, with its output and its end.
 pub fn replays_are_runs()
     ensures { ReplaysAreRuns }
-{}
+{
+    event_order::extensions_are_runs();
+    log_format::fuel_is_in_range();
+}
+
+/// Whatever bytes `sim` is done with, they spell a program with an order that names its threads, and the report tells of the
+/// recording that the order gives and of a run in which each thread makes exactly its recorded events, with its output and its end.
+pub fn simulations_are_runs()
+    ensures { SimulationsAreRuns }
+{
+    interleavings::driven_is_followed();
+    event_order::extensions_are_runs();
+}

@@ -4,7 +4,8 @@
 //! words and bytes (`Answers`), what a status tells of it (`Telling`), and how many looks it takes (`Looks`).
 //! The layer above is `main` alone. It may rely on the clauses of `offline`: the status and the report are those of the
 //! answer, of which there is one, a fault is answered only where the device's count rose, and a refusal leaves
-//! the sink as it was. What `replay` is done with is a run in which each thread makes exactly the events of its log.
+//! the sink as it was. What `replay` is done with is a run in which each thread makes exactly the events of its log, and what `sim` is done with
+//! one in which it makes exactly its recorded events.
 #![tactic(auto)]
 
 mod commands;
@@ -13,12 +14,14 @@ mod input;
 mod laws;
 mod messages;
 mod offline_call;
+mod recorded;
 mod refusal;
+mod replaying;
 mod reports;
 mod settings;
 mod status;
 mod words;
 
-pub use laws::{an_answer, one_answer, replays_are_runs};
+pub use laws::{an_answer, one_answer, replays_are_runs, simulations_are_runs};
 pub use offline_call::offline;
 pub use status::{LinkageFault, MemberFault, ProgramFault, Status};

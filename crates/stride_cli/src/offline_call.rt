@@ -1,8 +1,8 @@
 //! The top call for all commands that start no thread.
 ghost use Rattle.std.specs.Prelude.{◌≡◌, ◌+◌, ◌≤◌, ◌↔◌, [], None, Some, IfSome, map, length};
 ghost use Rattle.stride_base.specs.Devices.{Rose};
-ghost use Rattle.stride_cli.specs.Looks.{BeforeLinking, OnUnlinking, most_looks};
-ghost use Rattle.stride_cli.specs.Telling.{Tells, OnDone, OnReadFault, OnWriteFault, OnRefusal};
+ghost use Rattle.stride_cli.specs.Looks.{BeforeLinking, OnUnlinking, greatest_looks, most_looks};
+ghost use Rattle.stride_cli.specs.Telling.{OnDone, OnLogless, OnOrderless, OnReadFault, OnRefusal, OnWriteFault, RefusesNoLogs, RefusesNoMember, Tells};
 ghost use Rattle.stride_cli.specs.Words.{command_named};
 
 use crate::commands::report_of;
@@ -33,15 +33,21 @@ pub fn offline<S: Source, K: Sink, L: Ledger>(
     ensures untouched { OnRefusal result (sink.new ≡ sink.old) }
     ensures end { OnDone result (IfSome (S.left source.new) (λ rest. rest ≡ [])) }
 
+    // Only `follow` and `sim` refuse a member of an order, and only `infer` and `replay` refuse logs.
+    ensures members { OnOrderless (command_named (map (λ word. word.now) words.entry.now)) (RefusesNoMember result) }
+    ensures logs { OnLogless (command_named (map (λ word. word.now) words.entry.now)) (RefusesNoLogs result) }
+
     // A fault is answered only where the device's count rose in this call.
     ensures read_fault { OnReadFault result (Rose (S.faults source.old) (S.faults source.new)) }
     ensures write_fault { OnWriteFault result (Rose (K.faults sink.old) (K.faults sink.new)) }
     ensures counted { (S.faults source.old ≤ S.faults source.new) × (K.faults sink.old ≤ K.faults sink.new) }
 
-    // The counter stands still but for the commands that link, and where these end before that. They take at most so many looks.
+    // The counter stands still but for the commands that link, and where these end before that. They take at most so many looks,
+    // by the events of the input, and by the limit of events where the source tells no bytes.
     ensures uncounted { OnUnlinking (command_named (map (λ word. word.now) words.entry.now)) (steps.new ≡ steps.old) }
     ensures early { BeforeLinking result (steps.new ≡ steps.old) }
     ensures looks { IfSome (S.left source.old) (λ bytes. steps.new ≤ steps.old + most_looks (command_named (map (λ word. word.now) words.entry.now)) bytes) }
+    ensures ceiling { steps.new ≤ steps.old + greatest_looks }
 {
     let Some(command) = command_of(words) else {
         return Status::Usage;
@@ -52,7 +58,7 @@ pub fn offline<S: Source, K: Sink, L: Ledger>(
         Err(InputError::TooLong) => return Status::TooLong,
         Err(InputError::NoMemory) => return Status::NoMemory,
     };
-    let report = match report_of(alloc, command, bytes.as_slice(), steps) {
+    let report = match report_of(alloc, command, bytes, steps) {
         Ok(report) => report,
         Err(refusal) => return refusal.into_status(),
     };

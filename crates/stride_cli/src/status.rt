@@ -136,7 +136,7 @@ impl fmt::Display for Status {
             Status::Bundle { kind, offset } => write!(f, "offset {offset}: {kind}"),
             Status::Diverges { thread, place } => write!(
                 f,
-                "thread {thread}, entry {place} of its log, both counted from 0: the log does not fit the program there"
+                "thread {thread}, entry {place} of its log, both counted from 0: the log does not fit the program there, or the thread or its log is missing"
             ),
             Status::NoLinkage { fault } => write!(f, "{words}", words = LinkageWords(fault)),
             Status::NotEnabled { place, fault } => {

@@ -51,13 +51,13 @@ fn reports_are_put(rt: HostRuntime) -> Result<(), Fail> {
             &["sim"],
             PUBLISH,
             b"order\n1 0*4 1\n",
-            b"logs\n0 write 1\n1 read 0 1\n",
+            b"logs\n0 write 1\n1 read 0 1\nlinks\n1 0 0\nschedule 2\n1*1\n0*1\ntranscript\n1 0\nends\n0 halted\n1 halted\n",
         ),
         done(
             &["sim"],
             updates,
             b"order\n0*5 1*5\n",
-            b"logs\n0 update 0 1\n1 update 5 2\n",
+            b"logs\n0 update 0 1\n1 update 5 2\nlinks\nschedule 2\n0*1\n1*1\ntranscript\n0 0\n1 5\nends\n0 halted\n1 halted\n",
         ),
     ];
     play_all(&rt, rt.alloc(), &rows)

@@ -1,31 +1,45 @@
-//! `sim`: a program recorded by an order of atomic steps.
-ghost use Rattle.std.specs.Prelude.{◌≤◌, length};
+//! `sim`: a program recorded by an order of atomic steps, and replayed.
+ghost use Rattle.std.specs.Prelude.{◌≡◌, ◌+◌, ◌≤◌, length, IfErr};
 ghost use Rattle.stride_cli.specs.Gives.{Gives};
+ghost use Rattle.stride_cli.specs.Looks.{OnEarly, command_looks, greatest_looks};
 ghost use Rattle.stride_cli.specs.declared.words.Command.TheVariants.{Sim};
 
+use crate::commands::replay::put_run;
 use crate::input::read_input;
+use crate::recorded::{order_recorded, rerun_recorded};
 use crate::refusal::Refusal;
-use crate::reports::put_logs;
+use crate::replaying::replay_events;
+use crate::reports::{put_links, put_logs, put_schedule};
 use crate::settings::{FUEL, PATIENCE};
 use interleavings::drive;
 use std::alloc::Global;
-use stride_base::List;
+use std::sync::ledger::Ledger;
 use stride_base::limits::INPUT_LIMIT;
+use stride_base::{List, Steps};
 
-/// The logs of the recording, where the bytes are a program with an order that names its threads.
-pub fn simulate(alloc: Global, bytes: &[u8]) -> Result<List<u8>, Refusal>
+/// The logs of the recording, the links of its reads, their schedule and its run, where the bytes are a program with an order
+/// that names its threads.
+pub fn simulate<L: Ledger>(
+    alloc: Global,
+    bytes: &[u8],
+    steps: &mut Steps<L>,
+) -> Result<List<u8>, Refusal>
     requires { length bytes.now ≤ INPUT_LIMIT }
-    ensures { Gives result Sim bytes.now }
+    ensures answer { Gives result Sim bytes.now }
+    ensures early { IfErr result (λ refusal. OnEarly refusal (steps.new ≡ steps.old)) }
+    ensures looks { steps.new ≤ steps.old + command_looks Sim bytes.now }
+    ensures ceiling { steps.new ≤ steps.old + greatest_looks }
 {
     let input = read_input(alloc, bytes)?;
-    let driven = drive(
-        alloc,
-        &input.program,
-        FUEL,
-        PATIENCE,
-        input.order.as_slice(),
-    )?;
+    let order = input.order.as_slice();
+    let driven = drive(alloc, &input.program, FUEL, PATIENCE, order)?;
+    let traces = rerun_recorded(alloc, &input.program, order, &driven.logs)?;
+    let inferred = order_recorded(alloc, &input.program, order, &traces, steps)?;
+    let played = replay_events(alloc, &input.program, FUEL, &traces, &inferred)?;
     let mut report = List::new(alloc);
     put_logs(&mut report, driven.logs.as_slice())?;
+    put_links(&mut report, &traces, &inferred.links, steps)?;
+    put_schedule(&mut report, inferred.schedule.as_slice())?;
+    put_run(&mut report, &played)?;
     Ok(report)
 }

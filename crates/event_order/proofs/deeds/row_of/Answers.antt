@@ -13,7 +13,7 @@ loop-place-preserved g c =
     let traces = c.args.traces.now in
     let links = c.args.links.now in
     let at : Place = record { thread = c.args.thread; place = c.loop-place.place } in
-    let event = slice_get_read (events_of traces c.args.thread) c.count-place-end.result c.loop-place.place c.at-event.result c.count-place-end.ensures.count c.loop-place-test.true c.at-event.ensures.event in
+    let event = slice_get_read (events_of traces c.args.thread) c.count-count.result c.loop-place.place c.at-event.result c.count-count.ensures.count c.loop-place-test.true c.at-event.ensures.event in
     let deed : deed_in traces links at ≡ Some c.of.result =
     ap (option_map (λ event. deed_of event (link_at links at))) event
     ∙ (ap (λ link. Some (deed_of c.at-event.result link)) (sym c.of-link.ensures.link) ∙ ap Some (sym c.of.ensures)) in

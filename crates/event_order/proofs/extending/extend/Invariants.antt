@@ -1,15 +1,18 @@
-use Rattle.std.proofs.Common.{◌-◌, length}
+use Rattle.std.proofs.Common.{◌-◌, None, length}
 use Rattle.event_order.specs.Deeds.{size}
-use Rattle.event_order.specs.Fronts.{IsFront, IsKept, counted, done_of}
+use Rattle.event_order.specs.Fronts.{AreNexts, AreWaiters, IsFront, IsKept, NoneReady, done_of}
 use Rattle.event_order.specs.Sums.{upto}
-use Rattle.event_order.specs.Tables.{rows_of}
+use Rattle.event_order.specs.Tables.{counted, rows_of}
 use Rattle.event_order.proofs.extending.extend.Given as goal
 
-abbrev pub invariant-loop-thread : goal.invariant-loop-thread
-invariant-loop-thread l = record {
+abbrev pub invariant-loop-ready : goal.invariant-loop-ready
+invariant-loop-ready l = record {
   front : IsFront l.deeds (counted (rows_of l.front.waiting.rows.items)) l.front.done.items;
+  nexts : AreNexts l.deeds (counted (rows_of l.front.waiting.rows.items)) None l.front.done.items l.front.next.items;
+  waiters : AreWaiters l.front.next.items (rows_of l.front.waiters.items);
+  low : NoneReady l.front.next.items l.front.from;
   kept : IsKept l.deeds (done_of l.front.done.items) l.order.items;
 }
 
-abbrev pub decreases-loop-thread : goal.decreases-loop-thread
-decreases-loop-thread l = upto (λ thread. size l.deeds thread - done_of l.front.done.items thread) (length l.deeds)
+abbrev pub decreases-loop-ready : goal.decreases-loop-ready
+decreases-loop-ready l = upto (λ thread. size l.deeds thread - done_of l.front.done.items thread) (length l.deeds)

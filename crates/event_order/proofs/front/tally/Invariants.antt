@@ -1,7 +1,7 @@
 use Rattle.std.proofs.Common.{◌≡◌}
-use Rattle.event_order.specs.Fronts.{awaited_of, counted, none_done}
+use Rattle.event_order.specs.Fronts.{awaited_of, none_done}
 use Rattle.event_order.specs.Sums.{upto}
-use Rattle.event_order.specs.Tables.{rows_of}
+use Rattle.event_order.specs.Tables.{counted, rows_of}
 use Rattle.event_order.specs.declared.slot.Slot.{Slot}
 use Rattle.event_order.proofs.front.tally.Given as goal
 

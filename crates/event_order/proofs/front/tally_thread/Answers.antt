@@ -1,5 +1,6 @@
 use Rattle.std.proofs.Common.{arith, ap}
-use Rattle.event_order.specs.Fronts.{awaited, is_given, none_done}
+use Rattle.event_order.specs.Fronts.{awaited, none_done}
+use Rattle.event_order.specs.Tables.{is_given}
 use Rattle.event_order.proofs.Waiting.{awaited_few, awaited_left, upto_more}
 use Rattle.event_order.proofs.front.tally_thread.Goals as goal
 

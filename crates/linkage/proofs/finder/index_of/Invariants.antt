@@ -1,9 +1,9 @@
-use Rattle.std.proofs.Common.{◌≡◌, ◌≤◌, ◌-◌, length, map, take}
-use Rattle.linkage.specs.Indexing.{triple_of}
+use Rattle.std.proofs.Common.{◌+◌, ◌≤◌, length}
+use Rattle.linkage.specs.Indexing.{AreListedBefore}
 use Rattle.linkage.proofs.finder.index_of.Given as goal
 
-abbrev pub invariant-loop-write : goal.invariant-loop-write
-invariant-loop-write l = record {
-  so_far : l.triples.items ≡ map triple_of (take l.write-index l.row.writes.items);
-  room : length l.row.writes.items - l.write-index ≤ l.triples.spare;
+abbrev pub invariant-loop-cell : goal.invariant-loop-cell
+invariant-loop-cell l = record {
+  listed : AreListedBefore l.row l.cell 0 l.triples.items;
+  room : length l.row.values.items ≤ length l.triples.items + l.triples.spare;
 }

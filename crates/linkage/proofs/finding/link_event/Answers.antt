@@ -16,7 +16,7 @@ returns-then-bound-index-clause-finding g c =
     let there : event_at c.args.traces.now c.args.at ≡ Some (Read r.cell r.value r.bound) = c.requires.event ∙ ap Some r.is in
     let P : Event → Type 0 = λ event. IsInRange c.args.traces.now event in
     let own : r.cell < length c.args.traces.now.starts = subst P r.is c.requires.range in
-    let top : c.index.result.now ≡ slice_index row.greatest.items r.cell = c.index.ensures ∙ get_or_default row.greatest.items r.cell _ 0 (omega (arith, own, c.requires.finder.row.greatest)) in
+    let top : c.index.result.now ≡ slice_index row.spans.greatest.items r.cell = c.index.ensures ∙ get_or_default row.spans.greatest.items r.cell _ 0 (omega (arith, own, c.requires.finder.row.greatest)) in
     too_large c.args.traces.now c.args.at r.cell r.value r.bound there row c.requires.finder.row own (omega (arith, top, c.if-bound-index.true))
 
 pub is_old_stored-requires-clause-number : goal.is_old_stored-requires-clause-number
@@ -33,7 +33,7 @@ returns-in-Some-clause-finding g c =
     let there : event_at c.args.traces.now c.args.at ≡ Some (Read r.cell r.value r.bound) = c.requires.event ∙ ap Some r.is in
     let P : Event → Type 0 = λ event. IsInRange c.args.traces.now event in
     let own : r.cell < length c.args.traces.now.starts = subst P r.is c.requires.range in
-    let top : c.index.result.now ≡ slice_index row.greatest.items r.cell = c.index.ensures ∙ get_or_default row.greatest.items r.cell _ 0 (omega (arith, own, c.requires.finder.row.greatest)) in
+    let top : c.index.result.now ≡ slice_index row.spans.greatest.items r.cell = c.index.ensures ∙ get_or_default row.spans.greatest.items r.cell _ 0 (omega (arith, own, c.requires.finder.row.greatest)) in
     let Q : Option ℕ → Type 0 = λ found. IsLinkOrNone c.args.traces.now r.cell r.value r.bound found in
     let here = linked_here c.args.traces.now c.args.at r.cell r.value r.bound there c.in-Some.number (subst Q c.in-Some.is c.in_ok-number-in-Read.ensures.found) in (
       here.0,
@@ -49,7 +49,7 @@ returns-in-None-clause-finding g c =
     let there : event_at c.args.traces.now c.args.at ≡ Some (Read r.cell r.value r.bound) = c.requires.event ∙ ap Some r.is in
     let P : Event → Type 0 = λ event. IsInRange c.args.traces.now event in
     let own : r.cell < length c.args.traces.now.starts = subst P r.is c.requires.range in
-    let top : c.index.result.now ≡ slice_index row.greatest.items r.cell = c.index.ensures ∙ get_or_default row.greatest.items r.cell _ 0 (omega (arith, own, c.requires.finder.row.greatest)) in
+    let top : c.index.result.now ≡ slice_index row.spans.greatest.items r.cell = c.index.ensures ∙ get_or_default row.spans.greatest.items r.cell _ 0 (omega (arith, own, c.requires.finder.row.greatest)) in
     let Q : Option ℕ → Type 0 = λ found. IsLinkOrNone c.args.traces.now r.cell r.value r.bound found in (
       unequal_here c.args.traces.now c.args.at r.cell r.value r.bound there (subst Q c.in-None.is c.in_ok-number-in-Read.ensures.found),
       not_too_large c.args.traces.now c.args.at r.cell r.value r.bound there row c.requires.finder.row own (omega (arith, top, c.if-bound-index.false)),

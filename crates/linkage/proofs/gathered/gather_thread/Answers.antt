@@ -20,4 +20,4 @@ loop-place-preserved g c =
 
 pub returns-clause-gathered : goal.returns-clause-gathered
 returns-clause-gathered g c =
-    gathered_next c.args.traces.now c.args.thread c.loop-place.place c.loop-place.gathered (omega (arith, c.loop-place-test.false, c.count-place-end.ensures.count)) (omega (arith, c.count-place-end.ensures.small)) c.loop-place.invariant.gathered
+    gathered_next c.args.traces.now c.args.thread c.loop-place.place c.loop-place.gathered c.requires.thread (omega (arith, c.loop-place-test.false, c.count-place-end.ensures.count)) c.loop-place.invariant.gathered

@@ -9,6 +9,13 @@ returns c =
       links = c.links_or_refusal.ensures;
       order = c.least_or_cycle.ensures;
       runs = c.extensions_are_runs.ensures;
-      walks = c.followed_walks.ensures;
-      starts = c.each_cell_starts.ensures;
+      fuel = c.fuel_is_in_range.ensures;
+      recordings = record {
+        history = c.driven_is_a_history.ensures;
+        followed = c.driven_is_followed.ensures;
+        range = c.followed_are_in_range.ensures;
+        events = c.recordings_are_histories.ensures;
+        orders = c.histories_have_orders.ensures;
+        runs = c.extensions_are_runs.ensures;
+      };
     })

@@ -1,6 +1,6 @@
 use Rattle.std.proofs.Common.{ℕ, ◌<◌}
-use Rattle.event_order.specs.Fronts.{IsReady, counted, done_of}
-use Rattle.event_order.specs.Tables.{rows_of}
+use Rattle.event_order.specs.Fronts.{IsReady, done_of}
+use Rattle.event_order.specs.Tables.{counted, rows_of}
 use Rattle.event_order.proofs.front.Front.first_ready.Given as goal
 
 abbrev pub invariant-loop-thread : goal.invariant-loop-thread

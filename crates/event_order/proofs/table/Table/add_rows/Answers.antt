@@ -1,4 +1,4 @@
-use Rattle.std.proofs.Common.{◌≡◌, [], ◌∷◌, ◌++◌, ◌∙◌}
+use Rattle.std.proofs.Common.{◌≡◌, [], ◌∷◌, ◌++◌, None, ◌∙◌}
 use Rattle.std.proofs.lemmas.List.{map_push}
 use Rattle.event_order.specs.Tables.{rows_of}
 use Rattle.event_order.proofs.Rows.{pushed_row}
@@ -9,4 +9,4 @@ loop-alloc-preserved g c = λ slot.
     let old = rows_of c.loop-alloc.self.rows.items in
     let pushed : rows_of c.push.new.self.items ≡ old ++ [] ∷ [] =
     rw (c.in_ok-push.ensures.items, ← c.new.ensures.items) (map_push (λ r. r.items) c.loop-alloc.self.rows.items c.new.result) in
-    rw pushed (pushed_row old slot ∙ c.loop-alloc.invariant slot)
+    rw pushed (pushed_row old None slot ∙ c.loop-alloc.invariant slot)

@@ -17,6 +17,6 @@ returns g c =
     λ i. c.add_numbers.ensures.same i ∙ ap (λ r. get_or r i None) (sym was) in
     let written = map-set (λ r. r.items) rows slot.row (Rattle.std.specs.Vec.with_item row slot.number (Some c.args.value)) in
     record {
-      here = ap (λ t. entry t slot) written ∙ put_here (rows_of rows) slot row.items c.args.value there within;
-      others = λ other apart. ap (λ t. entry t other) written ∙ (put_other (rows_of rows) slot row.items c.args.value there same other apart ∙ c.add_rows.ensures.same other);
+      here = ap (λ t. entry t slot) written ∙ put_here (rows_of rows) slot row.items None (Some c.args.value) there within;
+      others = λ other apart. ap (λ t. entry t other) written ∙ (put_other (rows_of rows) slot row.items None (Some c.args.value) there same other apart ∙ c.add_rows.ensures.same other);
     }

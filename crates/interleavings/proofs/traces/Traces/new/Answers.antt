@@ -7,7 +7,7 @@ use Rattle.interleavings.proofs.traces.Traces.new.Goals as goal
 
 pub invariant_of-result : goal.invariant_of-result
 invariant_of-result c =
-    rw (c.in_ok-empty_lists.ensures, c.in_ok-starting_values.ensures)
+    rw (c.in_ok-empty_rows.ensures, c.in_ok-starting_values.ensures)
     (record {
       threads = simp length-replicate (omega arith);
       cells = omega (arith, c.each_cell_starts.ensures c.args.program.now.decls, c.facts.ensures.formed.limits.cells);

@@ -12,4 +12,4 @@ returns-clause-answer g c =
     let inferred : Inferred = record { links = order.links; schedule = order.schedule.items } in
     let report : c.put_schedule.new.report.items ≡ infer_report order.links order.schedule.items =
     rw (c.in_ok-put_schedule.ensures, c.in_ok-put_links.ensures.section, c.new-report.ensures.items, c.as_slice.ensures) refl in
-    to_events AnswersLinks c.args.bytes.now rerun.program rerun.fuel rerun.traces (Ordered inferred) (done c.put_schedule.new.report.items) c.in_ok-rerun.ensures.rerun c.in_ok-order.ensures.ordered (ap done report)
+    to_events AnswersLinks c.args.bytes.items rerun.program rerun.fuel rerun.traces (Ordered inferred) (done c.put_schedule.new.report.items) c.in_ok-rerun.ensures.rerun c.in_ok-order.ensures.ordered (ap done report)

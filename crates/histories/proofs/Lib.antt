@@ -1,0 +1,16 @@
+pub mod CellMoves
+pub mod Chronicles
+pub mod Counting
+pub mod EventLists
+pub mod Falling
+pub mod Growth
+pub mod MonitorMoves
+pub mod Names
+pub mod NewEvents
+pub mod NewMarks
+pub mod Notes
+pub mod Owners
+pub mod Ownership
+pub mod Stamps
+pub mod Standings
+pub mod WordsKept

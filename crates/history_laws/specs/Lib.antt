@@ -1,0 +1,2 @@
+pub mod HistoryEvents
+pub mod Laws

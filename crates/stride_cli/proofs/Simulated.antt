@@ -1,0 +1,107 @@
+-- The answer of `sim` to an input, by what became of its program, its order and its recording.
+use Rattle.std.proofs.Common.{◌≡◌, ◌∙◌, ◌++◌, ℕ, List, [], Option, Some, None, Result, Ok, Err, refl, sym, ap, subst, length, append_assoc}
+use Rattle.stride_isa.specs.Listing.{Listing}
+use Rattle.stride_isa.specs.Validity.{IsValid}
+use Rattle.interleavings.specs.declared.driven.DriveError.{DriveError}
+use Rattle.interleavings.specs.declared.driven.DriveError.TheVariants as drives
+use Rattle.interleavings.specs.DrivenSeen.{IsStranger}
+use Rattle.interleavings.specs.Driving.{driven, stranger}
+use Rattle.interleavings.specs.Following.{Divergence, Followed, follow_all}
+use Rattle.interleavings.specs.TraceLists.{TraceLists}
+use Rattle.assembler.specs.Programs.{LineFault, spelled}
+use Rattle.event_order.specs.Laws.{traces_of}
+use Rattle.replayer.specs.Replays.{IsRunOf as Plays, Results, results_of}
+use Rattle.stride_cli.specs.declared.refusal.Refusal.{Refusal}
+use Rattle.stride_cli.specs.declared.refusal.Refusal.TheVariants as refusals
+use Rattle.stride_cli.specs.declared.status.MemberFault.TheVariants.{NoThread}
+use Rattle.stride_cli.specs.declared.status.Status.TheVariants as statuses
+use Rattle.stride_cli.specs.declared.words.Command.TheVariants.{Sim}
+use Rattle.stride_cli.specs.Again.{IsRecorded}
+use Rattle.stride_cli.specs.Answers.{Answer, AnswersInput, AnswersOrder, AnswersProgram, AnswersRecorded, AnswersRecording, AnswersSimulated, done, order_of, program_part, refused, refused_text, setting_of}
+use Rattle.stride_cli.specs.Gives.{Refuses}
+use Rattle.stride_cli.specs.Inferring.{Inferred, IsInferredBy, IsInferredOf, Ordered}
+use Rattle.stride_cli.specs.Inputs.{Accepts, IsInput}
+use Rattle.stride_cli.specs.Looks.{followed_looks, printing_looks, simulated_looks}
+use Rattle.stride_cli.specs.Refusals.{of_drive}
+use Rattle.stride_cli.specs.Reports.{links_section, logs_section, schedule_section, sim_report}
+use Rattle.stride_cli.specs.Runs.{run_section}
+use Rattle.stride_cli.specs.Settings.{fuel}
+use Rattle.stride_cli.proofs.Bundles.{only_programs, unaccepted}
+
+regroup : (a b c d : List ℕ) → ((a ++ b) ++ c) ++ d ≡ a ++ (b ++ (c ++ d))
+regroup a b c d = append_assoc (a ++ b) c d ∙ append_assoc a b (c ++ d)
+
+module _ (bytes : List ℕ) where
+  -- what is answered to an accepted program of an input
+  abbrev Accepted : Listing → Answer → Type 0
+  Accepted p = AnswersOrder (order_of bytes) (AnswersSimulated p)
+
+  -- the refusal of the program
+  program_refused : (refusal : Refusal) → Accepts (program_part bytes) (Err refusal) → Refuses Sim bytes refusal
+  program_refused (refusals.Program fault) is =
+      unaccepted (program_part bytes) (spelled (program_part bytes)) Accepted (statuses.Program fault) (λ e. cc) (is (λ p. done []))
+  program_refused (refusals.Bundle kind offset) is =
+      absurd (only_programs (program_part bytes) (spelled (program_part bytes)) (statuses.Bundle kind offset) (λ e. cc) (λ fault e. cc) (is (λ p. done [])))
+  program_refused (refusals.Diverges thread place) is =
+      absurd (only_programs (program_part bytes) (spelled (program_part bytes)) (statuses.Diverges thread place) (λ e. cc) (λ fault e. cc) (is (λ p. done [])))
+  program_refused (refusals.NoLinkage fault) is =
+      absurd (only_programs (program_part bytes) (spelled (program_part bytes)) (statuses.NoLinkage fault) (λ e. cc) (λ fault e. cc) (is (λ p. done [])))
+  program_refused (refusals.NotEnabled place fault) is =
+      absurd (only_programs (program_part bytes) (spelled (program_part bytes)) (statuses.NotEnabled place fault) (λ e. cc) (λ fault e. cc) (is (λ p. done [])))
+  program_refused refusals.NoMemory is = tt
+
+  -- the same of a text that is lent
+  pub lent_refused : (lent : List ℕ) (refusal : Refusal) → lent ≡ program_part bytes → Accepts lent (Err refusal) → Refuses Sim bytes refusal
+  lent_refused lent refusal same is =
+      let P : List ℕ → Type 0 = λ text. Accepts text (Err refusal) in
+      program_refused refusal (subst P same is)
+
+  -- what is answered to the order of an accepted program
+  to_order : (p : Listing) (answer : Answer) → spelled (program_part bytes) ≡ Ok p → IsValid p → Accepted p answer → AnswersInput Sim bytes answer
+  to_order p answer spells valid is =
+      let Q : Result Listing LineFault → Type 0 = λ s. AnswersProgram (program_part bytes) s Accepted answer in
+      subst Q (sym spells) (None, (valid, is))
+
+  -- the refusal of the order
+  pub order_refused : (p : Listing) (fault : LineFault) → spelled (program_part bytes) ≡ Ok p → IsValid p → order_of bytes ≡ Err fault → AnswersInput Sim bytes (refused_text fault)
+  order_refused p fault spells valid is =
+      let Q : Result (List ℕ) LineFault → Type 0 = λ r. AnswersOrder r (AnswersSimulated p) (refused_text fault) in
+      to_order p (refused_text fault) spells valid (subst Q (sym is) refl)
+
+  -- what is answered to an order that is spelled
+  to_simulated : (p : Listing) (order : List ℕ) (answer : Answer) → IsInput bytes p order → AnswersSimulated p order answer → AnswersInput Sim bytes answer
+  to_simulated p order answer input is =
+      let Q : Result (List ℕ) LineFault → Type 0 = λ r. AnswersOrder r (AnswersSimulated p) answer in
+      to_order p answer input.program input.valid (subst Q (sym input.ordered) is)
+
+  drive_refused_by : (p : Listing) (order : List ℕ) (error : DriveError) → IsInput bytes p order → IsStranger (length p.threads) order error → Refuses Sim bytes (of_drive error)
+  drive_refused_by p order (drives.NoSuchThread place) input is =
+      let answer : Answer = refused (statuses.NotEnabled place NoThread) in
+      let Q : Option ℕ → Type 0 = λ found. AnswersRecorded p found (driven (setting_of p) order) answer in
+      to_simulated p order answer input (subst Q (sym is) refl)
+  drive_refused_by p order drives.NoMemory input is = tt
+
+  -- the refusal of a member that names no thread, of an order that is lent
+  pub drive_refused : (p : Listing) (order lent : List ℕ) (error : DriveError) → lent ≡ order → IsInput bytes p order → IsStranger (length p.threads) lent error → Refuses Sim bytes (of_drive error)
+  drive_refused p order lent error same input is = drive_refused_by p lent error (subst (IsInput bytes p) (sym same) input) is
+
+  -- the report of a recording is the answer
+  pub sim_done : (p : Listing) (order lent : List ℕ) (traces : TraceLists) (inferred : Inferred) (results : Results) (report : List ℕ) → lent ≡ order → IsInput bytes p order → IsRecorded p lent traces → IsInferredOf traces (Ordered inferred) → Plays p fuel inferred.schedule results
+      → report ≡ ((logs_section (driven (setting_of p) lent).logs ++ links_section inferred.links) ++ schedule_section inferred.schedule) ++ run_section results → AnswersInput Sim bytes (done report)
+  sim_done p order lent traces inferred results report same input recorded is plays put =
+      let recording = driven (setting_of p) lent in
+      let P : TraceLists → Type 0 = λ traces. IsInferredOf traces (Ordered inferred) in
+      let Q : Result (List Followed) Divergence → Type 0 = λ r. IsInferredBy p r (Ordered inferred) in
+      let R : Option ℕ → Type 0 = λ found. AnswersRecorded p found recording (done report) in
+      let ordered = subst Q (sym recorded.again.follows) (subst P recorded.again.traces_are is) in
+      let shown = put ∙ ap (λ (r : Results). ((logs_section recording.logs ++ links_section inferred.links) ++ schedule_section inferred.schedule) ++ run_section r) plays.shows in
+      let shows : report ≡ sim_report recording.logs inferred.links inferred.schedule plays.machine = shown ∙ regroup (logs_section recording.logs) (links_section inferred.links) (schedule_section inferred.schedule) (run_section (results_of p plays.machine)) in
+      to_simulated p lent (done report) (subst (IsInput bytes p) (sym same) input)
+      (subst R (sym recorded.known) (record { inferred = inferred; ordered = ordered; machine = plays.machine; runs = plays.runs; shows = ap done shows }))
+
+  -- the share of a recording
+  pub sim_looks : (p : Listing) (order lent : List ℕ) (traces : TraceLists) → lent ≡ order → IsInput bytes p order → IsRecorded p lent traces → simulated_looks (order_of bytes) (spelled (program_part bytes)) ≡ printing_looks traces
+  sim_looks p order lent traces same input recorded =
+      ap (λ (r : Result (List ℕ) LineFault). simulated_looks r (spelled (program_part bytes))) (input.ordered ∙ ap Ok (sym same))
+      ∙ (ap (simulated_looks (Ok lent)) input.program
+      ∙ (ap (followed_looks printing_looks p) recorded.again.follows ∙ ap printing_looks (sym recorded.again.traces_are)))
