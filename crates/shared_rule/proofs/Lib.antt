@@ -1,0 +1,9 @@
+pub mod Placed
+pub mod Weights
+pub mod Kinds
+pub mod Later
+pub mod Steps
+pub mod Drawing
+pub mod Sharing
+pub mod Relabelled
+pub mod Ending

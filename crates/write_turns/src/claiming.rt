@@ -1,0 +1,86 @@
+//! Seeing the number of a cell, and claiming the next one.
+ghost use Rattle.std.specs.Prelude.{◌≡◌, ℕ, ◌*◌, ◌==◌, ◌<◌, ◌^◌, length, IfSome};
+ghost use Rattle.interleavings.specs.declared.activity.Phase.TheVariants.{Numbered};
+ghost use Rattle.interleavings.specs.declared.kind.Kind.TheVariants as by;
+ghost use Rattle.shared_rule.specs.Passes.{IsPassOf, IsReady, starts_in, view_of};
+ghost use Rattle.shared_rule.specs.Plays.{Makes};
+ghost use Rattle.write_turns.specs.Claiming.{IsSeen, Takes, HasClaimed};
+
+use crossbeam_utils::Backoff;
+use shared_rule::{Pass, Shared, Word};
+use std::sync::Wait;
+
+/// Looks at the number of a cell, to write: `Some(n)` exactly where it was `2 * n`, and `None` exactly where it was odd. One
+/// step, of the kind `SeeNumber`.
+#[inline]
+pub fn see(shared: &Shared, pass: &mut Pass, cell: u32) -> Option<u32>
+    requires pass { IsPassOf shared.now pass.old }
+    requires cell { cell < length (starts_in shared.now) }
+    requires ready { IsReady (view_of pass.old) }
+    ensures pass { IsPassOf shared.now pass.new }
+    ensures step { (met : ℕ) × Makes by.SeeNumber cell 0 (view_of pass.old) met (view_of pass.new) × IsSeen result met }
+    ensures small { IfSome result (λ n. n < 2 ^ 31) }
+{
+    let met = shared.load(pass, Word::Number(cell));
+    if met % 2 == 0 {
+        Some((met / 2) as u32)
+    } else {
+        None
+    }
+}
+
+/// Claims the write after those that were seen: true exactly where the number was still twice that many. After false the pass is
+/// idle. One step, of the kind `Claim`.
+#[inline]
+pub fn try_claim(shared: &Shared, pass: &mut Pass, cell: u32, seen: u32) -> bool
+    requires pass { IsPassOf shared.now pass.old }
+    requires cell { cell < length (starts_in shared.now) }
+    requires seen { (view_of pass.old).activity.phase ≡ Numbered cell seen }
+    ensures pass { IsPassOf shared.now pass.new }
+    ensures step { (met : ℕ) × Makes by.Claim cell 0 (view_of pass.old) met (view_of pass.new) × (result ≡ (met == 2 * seen)) }
+{
+    let number = 2 * u64::from(seen);
+    shared
+        .compare_exchange(pass, Word::Number(cell), number, number + 1)
+        .is_ok()
+}
+
+/// Sees and claims until it has a claim, and answers the number that it saw. It waits for other writers.
+#[inline]
+pub fn take<R: Wait>(rt: &R, shared: &Shared, pass: &mut Pass, cell: u32) -> u32
+    requires pass { IsPassOf shared.now pass.old }
+    requires cell { cell < length (starts_in shared.now) }
+    requires ready { IsReady (view_of pass.old) }
+    ensures pass { IsPassOf shared.now pass.new }
+    ensures steps { Takes cell (view_of pass.old) result (view_of pass.new) }
+    ensures claimed { HasClaimed cell result (view_of pass.old) (view_of pass.new) }
+    ensures small { result < 2 ^ 31 }
+{
+    let backoff = Backoff::new();
+    for _ in rt.forever() {
+        match see(shared, pass, cell) {
+            Some(seen) => {
+                if try_claim(shared, pass, cell, seen) {
+                    return seen;
+                }
+                spin(&backoff);
+            }
+            None => snooze(&backoff),
+        }
+    }
+    unreachable!()
+}
+
+// Another writer came first, so the next try may do at once.
+#[cold]
+#[inline(never)]
+fn spin(backoff: &Backoff) {
+    backoff.spin();
+}
+
+// Another writer is under way, so it has to go on first.
+#[cold]
+#[inline(never)]
+fn snooze(backoff: &Backoff) {
+    backoff.snooze();
+}
