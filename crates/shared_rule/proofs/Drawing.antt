@@ -1,5 +1,5 @@
 -- A pass without a name draws one, and the rule holds after it.
-use Rattle.std.proofs.Common.{◌≡◌, ◌≢◌, ◌⊎◌, ℕ, suc, ◌+◌, ◌*◌, ◌/◌, ◌%◌, ◌^◌, ◌==◌, ◌<◌, ◌≤◌, ◌∙◌, Bool, true, false, if◌then◌else◌, List, [], ◌∷◌, ◌++◌, length, sum_by, Option, Some, None, refl, sym, ap, subst, inl, inr, arith, get_or, set}
+use Rattle.std.proofs.Common.{◌≡◌, ◌≢◌, ◌⊎◌, ℕ, suc, ◌+◌, ◌%◌, ◌^◌, ◌<◌, ◌≤◌, ◌∙◌, List, ◌∷◌, length, sum_by, None, refl, sym, ap, subst, inl, inr, arith, get_or, set}
 use Rattle.std.proofs.lemmas.Bool.{cases_eq}
 use Rattle.std.proofs.lemmas.List.{length-set}
 use mathlib.Core.Option.{some}
@@ -9,14 +9,13 @@ use Rattle.atomic_table.proofs.Lists.{at_set}
 use Rattle.interleavings.specs.declared.activity.Activity.{Activity}
 use Rattle.interleavings.specs.declared.activity.Tally.{Tally}
 use Rattle.interleavings.specs.declared.kind.Kind.TheVariants as by
-use Rattle.interleavings.specs.AtomicStep.{SharedWord, Drawn, Number, May, activity_after, tally_after}
+use Rattle.interleavings.specs.AtomicStep.{Drawn, May, activity_after, tally_after}
 use Rattle.interleavings.specs.History.{Person, State, Step, put_word, person_after, happens, after, IsHistory, newcomer}
 use Rattle.interleavings.specs.Recording.{Among}
 use Rattle.shared_rule.specs.declared.limits.TheConstants.{DRAW_LIMIT, EVENT_LIMIT}
 use Rattle.shared_rule.specs.declared.view.View.{View}
 use Rattle.shared_rule.specs.Facts.{HistoriesKeep}
 use Rattle.shared_rule.specs.Holding.{view_weight, weight_of, weight_below, gathered_weight, begun_events, IsOwn, Fits, Holds}
-use Rattle.shared_rule.specs.Lines.{index_of}
 use Rattle.shared_rule.specs.Views.{view_after}
 use Rattle.shared_rule.proofs.Placed.{words_put}
 use Rattle.shared_rule.proofs.Weights.{sum_set, sum_one, counts_name, undrawn}
@@ -47,7 +46,7 @@ module _ (starts : List ℕ) (s : table.State (Unit {0}) View) (holds : Holds st
 
   lawful : IsHistory starts (step ∷ holds.steps)
   unfolding IsHistory
-  lawful = (subst (λ (p : Person). May by.Draw 0 p.activity) (sym new_is) (record { begins = tt; suits = tt }), holds.lawful)
+  lawful = (subst (λ (p : Person). May by.Draw 0 p.activity) (sym new_is) (record { begins = tt; suits = refl }), holds.lawful)
 
   activity_is : (now.people met).activity ≡ view.activity
   activity_is =
@@ -113,20 +112,20 @@ module _ (starts : List ℕ) (s : table.State (Unit {0}) View) (holds : Holds st
     steps = step ∷ holds.steps;
     lawful = lawful;
     words = λ word within. words_put (length starts) s.words st.words Drawn ((met + 1) % 2 ^ 64) holds.wide tt holds.words word within
-      ∙ ap (λ x. put_word st.words Drawn x word) (let few_names = few_drawn in omega (arith, met_there));
+        ∙ ap (λ x. put_word st.words Drawn x word) (let few_names = few_drawn in omega (arith, met_there));
     wide = length-set s.words 0 ((met + 1) % 2 ^ 64) ∙ holds.wide;
     named = named_still;
     once = λ weigh. (
-      let change = sum_set (view_weight weigh) s.views id v view there in
-      let more = weighs_more weigh in
-      let old = holds.once weigh ∙ ap (weight_below weigh) met_there in
-      let sums : sum_by (view_weight weigh) (set s.views id view) ≡ weight_below weigh (suc met) = omega arith in
-      let next : suc met ≡ st.words Drawn + 1 = omega (arith, met_there) in
-      sums ∙ ap (weight_below weigh) next);
+        let change = sum_set (view_weight weigh) s.views id v view there in
+        let more = weighs_more weigh in
+        let old = holds.once weigh ∙ ap (weight_below weigh) met_there in
+        let sums : sum_by (view_weight weigh) (set s.views id view) ≡ weight_below weigh (suc met) = omega arith in
+        let next : suc met ≡ st.words Drawn + 1 = omega (arith, met_there) in
+        sums ∙ ap (weight_below weigh) next);
     draws = (
-      let change = sum_set (λ (w : View). w.draws) s.views id v view there in
-      let old = holds.draws in
-      omega arith);
+        let change = sum_set (λ (w : View). w.draws) s.views id v view there in
+        let old = holds.draws in
+        omega arith);
     few = λ t. few t (cases_eq t met);
     each = λ other w at_other. others_fit other w (at_set s.views id other view w at_other);
   }

@@ -1,8 +1,8 @@
 -- Once all names are gathered, what was gathered is of one history.
-use Rattle.std.proofs.Common.{◌≡◌, ◌≢◌, ◌⊎◌, ℕ, zero, suc, ◌+◌, ◌==◌, ◌<◌, ◌≤◌, ◌∙◌, Bool, true, false, List, [], ◌∷◌, length, sum_by, Option, Some, None, refl, sym, ap, subst, inl, inr, arith, get_or, map}
-use Rattle.std.specs.Prelude.{slice_get}
+use Rattle.std.proofs.Common.{◌≡◌, ◌⊎◌, ℕ, zero, suc, ◌+◌, ◌<◌, ◌≤◌, ◌∙◌, List, [], ◌∷◌, length, sum_by, Option, Some, None, refl, sym, ap, subst, inl, inr, arith, get_or, map}
+use Rattle.std.specs.Prelude.{slice_get, unwrap_or, is_some}
 use Rattle.std.proofs.lemmas.Option.{slice_get_within}
-use Rattle.std.proofs.lemmas.Bool.{cases_lt, cases_eq}
+use Rattle.std.proofs.lemmas.Bool.{cases_lt, cases_eq, false≢true}
 use Rattle.std.proofs.lemmas.List.Sums.{sum_by-cons}
 use mathlib.Core.Option.{some, some-injective, some-ne-none}
 use lib.ListN.{get_elem?}
@@ -10,13 +10,22 @@ use Rattle.atomic_table.specs.Table as table
 use Rattle.interleavings.specs.declared.activity.Activity.{Activity}
 use Rattle.interleavings.specs.AtomicStep.{SharedWord, Drawn, IsIdle}
 use Rattle.interleavings.specs.History.{Person, State, Step, after, IsHistory, newcomer}
-use Rattle.interleavings.specs.Recording.{Among}
+use Rattle.std.specs.Mem.Slots.{slots_items}
+use Rattle.shared_rule.specs.Closing.{last_word, AreCounted, IsOneHistory, IsWhole}
+use Rattle.shared_rule.specs.declared.closed.Closed.{Closed}
+use Rattle.shared_rule.specs.declared.limits.TheConstants.{DRAW_LIMIT}
 use Rattle.shared_rule.specs.declared.view.View.{View}
 use Rattle.shared_rule.specs.Facts.{HistoriesKeep}
 use Rattle.shared_rule.specs.Holding.{view_weight, weight_of, weight_below, gathered_weight, IsGatheredAs, AreGathered, Holds}
 use Rattle.shared_rule.specs.Lines.{index_of, IsThere}
 use Rattle.shared_rule.proofs.Weights.{sum_one, counts_name, counts_itself, counts_other, below_itself, once_below}
 use Rattle.shared_rule.proofs.Relabelled.{relabelled, after_same, history_same}
+
+some_same : {A : Type 0} (a b : A) → Some a ≡ Some b → a ≡ b
+some_same {A} a b e = ap (λ (o : Option A). unwrap_or o a) e
+
+not_there : {A : Type 0} (a : A) → None ≡ Some a → ⊥
+not_there {A} a e = false≢true (ap (λ (o : Option A). is_some o) e)
 
 -- the weighing that counts names
 abbrev one : ℕ → ℕ
@@ -123,9 +132,9 @@ name_stands n (g ∷ gathered) weighs = elim (name_is n g.name) [
 
 -- a name that stands somewhere weighs something
 name_weighs : (n : ℕ) (gathered : List Activity) (t : ℕ) (a : Activity) → slice_get gathered t ≡ Some a → a.name ≡ Some n → 1 ≤ gathered_weight (counts_name n) gathered
-name_weighs n [] t a there named = absurd (None≢Some there)
+name_weighs n [] t a there named = absurd (not_there a there)
 name_weighs n (g ∷ gathered) zero a there named =
-    let name : g.name ≡ Some n = ap (λ (x : Activity). x.name) (Some-injective there) ∙ named in
+    let name : g.name ≡ Some n = ap (λ (x : Activity). x.name) (some_same g a there) ∙ named in
     omega (arith, sum_by-cons (λ (x : Activity). weight_of (counts_name n) x.name) g gathered, ap (weight_of (counts_name n)) name, counts_itself n)
 name_weighs n (g ∷ gathered) (suc t) a there named =
     let rest = name_weighs n gathered t a there named in
@@ -133,14 +142,14 @@ name_weighs n (g ∷ gathered) (suc t) a there named =
 
 -- a name that weighs one at most stands at one place
 name_once : (n : ℕ) (gathered : List Activity) (t u : ℕ) (a b : Activity) → slice_get gathered t ≡ Some a → a.name ≡ Some n → slice_get gathered u ≡ Some b → b.name ≡ Some n → gathered_weight (counts_name n) gathered ≤ 1 → t ≡ u
-name_once n [] t u a b at_t named_t at_u named_u most = absurd (None≢Some at_t)
+name_once n [] t u a b at_t named_t at_u named_u most = absurd (not_there a at_t)
 name_once n (g ∷ gathered) zero zero a b at_t named_t at_u named_u most = refl
 name_once n (g ∷ gathered) zero (suc u) a b at_t named_t at_u named_u most =
-    let name : g.name ≡ Some n = ap (λ (x : Activity). x.name) (Some-injective at_t) ∙ named_t in
+    let name : g.name ≡ Some n = ap (λ (x : Activity). x.name) (some_same g a at_t) ∙ named_t in
     let rest = name_weighs n gathered u b at_u named_u in
     absurd (omega (arith, sum_by-cons (λ (x : Activity). weight_of (counts_name n) x.name) g gathered, ap (weight_of (counts_name n)) name, counts_itself n))
 name_once n (g ∷ gathered) (suc t) zero a b at_t named_t at_u named_u most =
-    let name : g.name ≡ Some n = ap (λ (x : Activity). x.name) (Some-injective at_u) ∙ named_u in
+    let name : g.name ≡ Some n = ap (λ (x : Activity). x.name) (some_same g b at_u) ∙ named_u in
     let rest = name_weighs n gathered t a at_t named_t in
     absurd (omega (arith, sum_by-cons (λ (x : Activity). weight_of (counts_name n) x.name) g gathered, ap (weight_of (counts_name n)) name, counts_itself n))
 name_once n (g ∷ gathered) (suc t) (suc u) a b at_t named_t at_u named_u most =
@@ -206,8 +215,8 @@ module _ (starts : List ℕ) (s : table.State (Unit {0}) View) (holds : Holds st
   name-place-by n (inl less) (inl within) =
       let found = stands n less in
       let again = gathered_at st v.gathered are found.place within in
-      let same : again.activity ≡ found.activity = Some-injective (sym again.there ∙ found.there) in
-      Some-injective (sym again.named ∙ ap (λ (a : Activity). a.name) same ∙ found.named)
+      let same : again.activity ≡ found.activity = some_same again.activity found.activity (sym again.there ∙ found.there) in
+      some_same again.name n (sym again.named ∙ ap (λ (a : Activity). a.name) same ∙ found.named)
   name-place-by n (inl less) (inr past) =
       (let found = stands n less in
       let within = slice_get_within v.gathered found.place found.activity found.there in
@@ -223,8 +232,8 @@ module _ (starts : List ℕ) (s : table.State (Unit {0}) View) (holds : Holds st
   unfolding name place
   name-place n = name-place-by n (cases_lt n many) (cases_lt (place_by n (cases_lt n many)) many)
 
-  abbrev steps : List Step
-  steps = map (relabelled starts place name place-name name-place) holds.steps
+  abbrev all_steps : List Step
+  all_steps = map (relabelled starts place name place-name name-place) holds.steps
 
   thread_by : (t : ℕ) (here : (t < many) ⊎ (many ≤ t)) → t < many → slice_get v.gathered t ≡ Some (st.people (name_by t here)).activity
   unfolding name_by
@@ -244,7 +253,7 @@ module _ (starts : List ℕ) (s : table.State (Unit {0}) View) (holds : Holds st
   other_by t (inl less) past = absurd (omega arith)
   other_by t (inr past_too) past = stranger t past
 
-  person_is : (t : ℕ) → (after starts steps).people t ≡ st.people (name t)
+  person_is : (t : ℕ) → (after starts all_steps).people t ≡ st.people (name t)
   person_is t = (after_same starts place name place-name name-place holds.steps).people t
 
   -- each thread of the relabelled history did what was gathered at its place
@@ -255,7 +264,7 @@ module _ (starts : List ℕ) (s : table.State (Unit {0}) View) (holds : Holds st
     pub others : (t : ℕ) → many ≤ t → (after starts told).people t ≡ newcomer
     pub words : (word : SharedWord) → IsThere (length starts) word → (after starts told).words word ≡ get_or s.words (index_of word) 0
 
-  told : IsTold steps
+  told : IsTold all_steps
   unfolding name
   told = record {
     lawful = history_same starts place name place-name name-place holds.steps holds.lawful;
@@ -264,3 +273,63 @@ module _ (starts : List ℕ) (s : table.State (Unit {0}) View) (holds : Holds st
     others = λ t past. person_is t ∙ other_by t (cases_lt t many) past;
     words = λ word within. (after_same starts place name place-name name-place holds.steps).words word ∙ sym (holds.words word within);
   }
+
+-- no more were gathered than were drawn
+module _ (starts : List ℕ) (s : table.State (Unit {0}) View) (holds : Holds starts s) (id : ℕ) (v : View) (there : get_elem? s.views id ≡ some v) where
+  gathered_within : length v.gathered ≤ (after starts holds.steps).words Drawn
+  gathered_within =
+      let part = sum_one (view_weight one) s.views id v there in
+      let count = gathered_count (after starts holds.steps) v.gathered (holds.each id v there).rest in
+      let all = holds.once one in
+      let names = below_one ((after starts holds.steps).words Drawn) in
+      omega arith
+
+  draws_within : v.draws + (after starts holds.steps).words Drawn ≤ DRAW_LIMIT
+  draws_within = (let part = sum_one (λ (w : View). w.draws) s.views id v there in let all = holds.draws in omega arith)
+
+-- what is read at a place
+got : (xs : List ℕ) (i x : ℕ) → get_elem? xs i ≡ some x → get_or xs i 0 ≡ x
+got [] i x e = absurd (some-ne-none x (sym e))
+got (y ∷ xs) zero x e = some-injective y x e
+got (y ∷ xs) (suc i) x e = got xs i x e
+
+pub last_got : (closed : Closed) (word : SharedWord) (i x : ℕ) → i ≡ index_of word → get_elem? (slots_items closed.words.words) i ≡ some x → x ≡ last_word closed word
+last_got closed word i x at e = sym (got (slots_items closed.words.words) i x e) ∙ ap (λ j. get_or (slots_items closed.words.words) j 0) at
+
+module _ (starts : List ℕ) (facts : HistoriesKeep) (id : ℕ) (v : View) (starts_are : v.starts ≡ starts) (closed : Closed) (units : List (Unit {0})) (final : table.Final (table.Seen (Holds starts) id v) (slots_items closed.words.words) units) where
+  s : table.State (Unit {0}) View
+  s = final.0
+
+  holds : Holds starts s
+  unfolding s
+  holds = final.1.0
+
+  there : get_elem? s.views id ≡ some v
+  unfolding s
+  there = final.1.1
+
+  words_are : s.words ≡ slots_items closed.words.words
+  unfolding s
+  words_are = final.2
+
+  drawn_is : last_word closed Drawn ≡ (after starts holds.steps).words Drawn
+  drawn_is = ap (λ (xs : List ℕ). get_or xs 0 0) (sym words_are) ∙ holds.words Drawn tt
+
+  pub counted_ends : AreCounted v closed
+  counted_ends = record {
+    gathered = (let within = gathered_within starts s holds id v there in let drawn = drawn_is in omega arith);
+    drawn = (let within = draws_within starts s holds id v there in let drawn = drawn_is in omega arith);
+  }
+
+  pub whole_ends : IsWhole v closed
+  whole_ends all =
+      let is_told = told starts s holds facts id v there (all ∙ drawn_is) in
+      let steps = all_steps starts s holds facts id v there (all ∙ drawn_is) in
+      let shown : IsOneHistory starts v.gathered closed steps = record {
+        lawful = is_told.lawful;
+        threads = is_told.threads;
+        idle = is_told.idle;
+        others = is_told.others;
+        words = λ word within. is_told.words word within ∙ ap (λ (xs : List ℕ). get_or xs (index_of word) 0) words_are;
+      } in
+      (steps, subst (λ xs. IsOneHistory xs v.gathered closed steps) (sym starts_are) shown)

@@ -1,10 +1,10 @@
 -- A later state in which one thread at most did something: what every other pass knows still fits.
-use Rattle.std.proofs.Common.{◌≡◌, ◌≢◌, ℕ, ◌+◌, ◌/◌, ◌<◌, ◌≤◌, ◌∙◌, true, List, [], ◌∷◌, Option, Some, None, sym, ap, subst, arith}
+use Rattle.std.proofs.Common.{◌≡◌, ◌≢◌, ℕ, ◌/◌, ◌≤◌, ◌∙◌, List, [], ◌∷◌, Option, Some, None, ap, arith}
 use Rattle.std.proofs.lemmas.List.Sums.{sum_by-cons}
 use Rattle.interleavings.specs.declared.activity.Activity.{Activity}
 use Rattle.interleavings.specs.declared.activity.Tally.{Tally}
 use Rattle.interleavings.specs.AtomicStep.{Drawn, Number}
-use Rattle.interleavings.specs.History.{Person, State, greatest_seen}
+use Rattle.interleavings.specs.History.{Person, State}
 use Rattle.shared_rule.specs.declared.view.View.{View}
 use Rattle.shared_rule.specs.Holding.{weight_of, gathered_weight, IsOwn, IsGatheredAs, AreGathered, Fits}
 use Rattle.shared_rule.proofs.Weights.{counts_name, other_name, IsWithout}

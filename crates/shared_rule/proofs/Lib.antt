@@ -1,9 +1,11 @@
 pub mod Placed
 pub mod Weights
-pub mod Kinds
+pub mod KindRows
 pub mod Later
 pub mod Steps
 pub mod Drawing
 pub mod Sharing
 pub mod Relabelled
 pub mod Ending
+pub mod Small
+pub mod Accessing

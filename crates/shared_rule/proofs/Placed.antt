@@ -1,12 +1,12 @@
 -- Different words have different places.
-use Rattle.std.proofs.Common.{◌≡◌, ℕ, ◌+◌, ◌*◌, ◌/◌, ◌%◌, ◌-◌, ◌==◌, ◌<◌, ◌≤◌, ◌∙◌, Bool, true, false, if◌then◌else◌, List, length, inl, inr, refl, sym, ap, subst, arith, get_or, set}
+use Rattle.std.proofs.Common.{◌≡◌, ℕ, ◌+◌, ◌*◌, ◌/◌, ◌%◌, ◌-◌, ◌==◌, ◌<◌, ◌∙◌, Bool, true, false, if◌then◌else◌, List, length, inl, inr, refl, sym, ap, arith, get_or, set}
 use Rattle.std.specs.Prelude.{nat_le}
-use Rattle.std.proofs.lemmas.Bool.{ne_eqb, eq-eqb}
+use Rattle.std.proofs.lemmas.Bool.{ne_eqb}
 use Rattle.std.proofs.lemmas.Bool.Decides.{eqb_tells}
 use Rattle.std.proofs.lemmas.List.{get_or-set_same, get_or-set_other}
 use Rattle.interleavings.specs.AtomicStep.{SharedWord, Drawn, Value, Number, Monitor}
 use Rattle.interleavings.specs.History.{same_word, put_word}
-use Rattle.shared_rule.specs.Lines.{line_of, offset_of, index_of, width, IsThere, word_in_line, word_at}
+use Rattle.shared_rule.specs.Lines.{index_of, width, IsThere, word_in_line, word_at}
 
 -- the word in this line at this place
 abbrev in_line : ℕ → ℕ → SharedWord

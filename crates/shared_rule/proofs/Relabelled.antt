@@ -1,7 +1,6 @@
 -- A history whose threads have other numbers is a history.
-use Rattle.std.proofs.Common.{◌≡◌, ℕ, ◌==◌, ◌∙◌, Bool, true, false, if◌then◌else◌, List, [], ◌∷◌, map, refl, sym, ap, subst, inl, inr}
+use Rattle.std.proofs.Common.{◌≡◌, ℕ, ◌==◌, ◌∙◌, if◌then◌else◌, List, [], ◌∷◌, map, refl, sym, ap, subst, inl, inr}
 use Rattle.std.proofs.lemmas.Bool.{cases_eq, eq-eqb, ne_eqb}
-use Rattle.interleavings.specs.declared.activity.Activity.{Activity}
 use Rattle.interleavings.specs.AtomicStep.{SharedWord, word_of, word_after, May}
 use Rattle.interleavings.specs.History.{Person, State, Step, same_word, person_after, happens, after, IsHistory}
 
@@ -28,14 +27,14 @@ module _ (starts : List ℕ) (to from : ℕ → ℕ) (to-from : (t : ℕ) → to
       let met : st'.words word ≡ st.words word = same.words word in
       record {
         words = λ x.
-          ap (λ (p : Person). if same_word x word then word_after s.kind s.at s.value p.activity (st'.words word) else st'.words x) person
-          ∙ ap (λ m. if same_word x word then word_after s.kind s.at s.value (st.people s.who).activity m else st'.words x) met
-          ∙ ap (λ m. if same_word x word then word_after s.kind s.at s.value (st.people s.who).activity (st.words word) else m) (same.words x);
+            ap (λ (p : Person). if same_word x word then word_after s.kind s.at s.value p.activity (st'.words word) else st'.words x) person
+            ∙ ap (λ m. if same_word x word then word_after s.kind s.at s.value (st.people s.who).activity m else st'.words x) met
+            ∙ ap (λ m. if same_word x word then word_after s.kind s.at s.value (st.people s.who).activity (st.words word) else m) (same.words x);
         people = λ t.
-          ap (λ b. if b then person_after s (st'.people (to s.who)) (st'.words word) else st'.people t) (same_thread t s.who)
-          ∙ ap (λ (p : Person). if from t == s.who then person_after s p (st'.words word) else st'.people t) person
-          ∙ ap (λ m. if from t == s.who then person_after s (st.people s.who) m else st'.people t) met
-          ∙ ap (λ (p : Person). if from t == s.who then person_after s (st.people s.who) (st.words word) else p) (same.people t);
+            ap (λ b. if b then person_after s (st'.people (to s.who)) (st'.words word) else st'.people t) (same_thread t s.who)
+            ∙ ap (λ (p : Person). if from t == s.who then person_after s p (st'.words word) else st'.people t) person
+            ∙ ap (λ m. if from t == s.who then person_after s (st.people s.who) m else st'.people t) met
+            ∙ ap (λ (p : Person). if from t == s.who then person_after s (st.people s.who) (st.words word) else p) (same.people t);
       }
 
   pub after_same : (steps : List Step) → Same (after starts steps) (after starts (map relabelled steps))

@@ -1,6 +1,5 @@
 -- The rule holds at the start, and after a pass is split or takes another in.
-use Rattle.std.proofs.Common.{◌≡◌, ◌≢◌, ◌⊎◌, ℕ, ◌+◌, ◌-◌, ◌/◌, ◌==◌, ◌<◌, ◌≤◌, ◌∙◌, true, if◌then◌else◌, List, [], ◌∷◌, ◌++◌, length, map, max, sum_by, Option, Some, None, refl, sym, ap, subst, inl, inr, arith, get_or, set}
-use Rattle.std.specs.List.{range_with_len}
+use Rattle.std.proofs.Common.{◌≡◌, ◌≢◌, ◌⊎◌, ℕ, zero, suc, ◌+◌, ◌/◌, ◌==◌, ◌≤◌, ◌∙◌, if◌then◌else◌, List, [], ◌∷◌, ◌++◌, length, max, Option, Some, None, refl, sym, ap, subst, inl, inr, arith, set}
 use Rattle.std.proofs.lemmas.List.FromFn.{get_or-map-range_with_len, length-map-range_with_len}
 use Rattle.std.proofs.lemmas.List.Sums.{sum_by-cons, sum_by-append}
 use mathlib.Core.Option.{some, some-injective, some-ne-none}
@@ -10,19 +9,14 @@ use Rattle.atomic_table.proofs.Lists.{at_set, at_snoc}
 use Rattle.interleavings.specs.declared.activity.Activity.{Activity}
 use Rattle.interleavings.specs.declared.activity.SeenNumber.{SeenNumber}
 use Rattle.interleavings.specs.declared.activity.Tally.{Tally}
-use Rattle.interleavings.specs.AtomicStep.{SharedWord, Drawn, Number, IsIdle}
-use Rattle.interleavings.specs.History.{State, Step, after, IsHistory, start_words, greatest_seen}
-use Rattle.interleavings.specs.Recording.{Among}
+use Rattle.interleavings.specs.AtomicStep.{Number, IsIdle}
+use Rattle.interleavings.specs.History.{State, after, IsHistory, start_words, greatest_seen}
 use Rattle.shared_rule.specs.declared.view.View.{View}
-use Rattle.shared_rule.specs.Holding.{view_weight, weight_of, weight_below, gathered_weight, IsOwn, IsGatheredAs, AreGathered, Fits, Holds}
-use Rattle.shared_rule.specs.Lines.{index_of, width, IsThere, word_at}
+use Rattle.shared_rule.specs.Holding.{view_weight, weight_of, gathered_weight, IsOwn, IsGatheredAs, AreGathered, Fits, Holds}
+use Rattle.shared_rule.specs.Lines.{index_of, width, word_at, opening_words}
 use Rattle.shared_rule.specs.Views.{first_view, spent_view, halved, split_off, brought, taken_in}
 use Rattle.shared_rule.proofs.Placed.{decoded, index_inside}
 use Rattle.shared_rule.proofs.Weights.{sum_set}
-
--- the words at the start
-abbrev pub opening_words : List ℕ → List ℕ
-opening_words starts = map (λ index. start_words starts (word_at index)) (range_with_len 0 (width (length starts)))
 
 first_fits : (starts : List ℕ) (id : ℕ) (v : View) → get_elem? (first_view starts ∷ []) id ≡ some v → Fits starts (after starts []) v
 unfolding after
@@ -40,7 +34,7 @@ opens starts = record {
   steps = [];
   lawful = tt;
   words = λ word within. get_or-map-range_with_len (λ index. start_words starts (word_at index)) 0 (width (length starts)) (index_of word) (index_of word) 0 (index_inside (length starts) word within) (omega arith)
-    ∙ ap (start_words starts) (decoded (length starts) word within);
+      ∙ ap (start_words starts) (decoded (length starts) word within);
   wide = length-map-range_with_len (λ index. start_words starts (word_at index)) 0 (width (length starts));
   named = λ x among. absurd among;
   once = λ weigh. omega (arith, sum_by-cons (view_weight weigh) (first_view starts) []);
@@ -75,13 +69,13 @@ module _ (starts : List ℕ) (s : table.State (Unit {0}) View) (holds : Holds st
     wide = holds.wide;
     named = holds.named;
     once = λ weigh. (
-      let change = sum_set (view_weight weigh) s.views id v (halved v) there in
-      let old = holds.once weigh in
-      omega (arith, sum_by-append (view_weight weigh) (set s.views id (halved v)) (split_off v ∷ []), sum_by-cons (view_weight weigh) (split_off v) []));
+        let change = sum_set (view_weight weigh) s.views id v (halved v) there in
+        let old = holds.once weigh in
+        omega (arith, sum_by-append (view_weight weigh) (set s.views id (halved v)) (split_off v ∷ []), sum_by-cons (view_weight weigh) (split_off v) []));
     draws = (
-      let change = sum_set (λ (w : View). w.draws) s.views id v (halved v) there in
-      let old = holds.draws in
-      omega (arith, sum_by-append (λ (w : View). w.draws) (set s.views id (halved v)) (split_off v ∷ []), sum_by-cons (λ (w : View). w.draws) (split_off v) []));
+        let change = sum_set (λ (w : View). w.draws) s.views id v (halved v) there in
+        let old = holds.draws in
+        omega (arith, sum_by-append (λ (w : View). w.draws) (set s.views id (halved v)) (split_off v ∷ []), sum_by-cons (λ (w : View). w.draws) (split_off v) []));
     few = holds.few;
     each = λ other w at. parts_fit other w (at_snoc (set s.views id (halved v)) (split_off v) w other at);
   }
@@ -90,13 +84,13 @@ brought_weight : (weigh : ℕ → ℕ) (name : Option ℕ) (activity : Activity)
 brought_weight weigh None activity is = refl
 brought_weight weigh (Some n) activity is = omega (arith, sum_by-cons (λ (g : Activity). weight_of weigh g.name) activity [], ap (weight_of weigh) is)
 
-brought_gathered : (st : State) (name : Option ℕ) (activity : Activity) (tally : Tally) → activity.name ≡ name → IsIdle activity.phase → IsOwn st name activity tally → AreGathered st (brought name activity)
-brought_gathered st None activity tally is idle own = tt
-brought_gathered st (Some n) activity tally is idle own = (subst (λ name. IsGatheredAs st name activity) (sym is) (own.0, own.1, idle), tt)
+brought_gathered : (now : State) (name : Option ℕ) (activity : Activity) (tally : Tally) → activity.name ≡ name → IsIdle activity.phase → IsOwn now name activity tally → AreGathered now (brought name activity)
+brought_gathered now None activity tally is idle own = tt
+brought_gathered now (Some n) activity tally is idle own = (subst (λ name. IsGatheredAs now name activity) (sym is) (own.0, own.1, idle), tt)
 
-both_gathered : (st : State) (gathered more : List Activity) → AreGathered st gathered → AreGathered st more → AreGathered st (gathered ++ more)
-both_gathered st [] more are all = all
-both_gathered st (g ∷ gathered) more are all = (are.0, both_gathered st gathered more are.1 all)
+both_gathered : (now : State) (gathered more : List Activity) → AreGathered now gathered → AreGathered now more → AreGathered now (gathered ++ more)
+both_gathered now [] more are all = all
+both_gathered now (g ∷ gathered) more are all = (are.0, both_gathered now gathered more are.1 all)
 
 both_seen : (cell most : ℕ) (seen more : List SeenNumber) → greatest_seen cell seen ≤ most → greatest_seen cell more ≤ most → greatest_seen cell (seen ++ more) ≤ most
 both_seen cell most [] more le all = all
@@ -149,16 +143,19 @@ module _ (starts : List ℕ) (s : table.State (Unit {0}) View) (holds : Holds st
     wide = holds.wide;
     named = holds.named;
     once = λ weigh. (
-      let one = sum_set (view_weight weigh) s.views id v (taken_in v w) there in
-      let two = sum_set (view_weight weigh) (set s.views id (taken_in v w)) other w spent_view at_other in
-      let both = both_weigh weigh in
-      let old = holds.once weigh in
-      omega arith);
+        let one = sum_set (view_weight weigh) s.views id v (taken_in v w) there in
+        let two = sum_set (view_weight weigh) (set s.views id (taken_in v w)) other w spent_view at_other in
+        let both = both_weigh weigh in
+        let old = holds.once weigh in
+        omega arith);
     draws = (
-      let one = sum_set (λ (u : View). u.draws) s.views id v (taken_in v w) there in
-      let two = sum_set (λ (u : View). u.draws) (set s.views id (taken_in v w)) other w spent_view at_other in
-      let old = holds.draws in
-      omega arith);
+        let one = sum_set (λ (u : View). u.draws) s.views id v (taken_in v w) there in
+        let two = sum_set (λ (u : View). u.draws) (set s.views id (taken_in v w)) other w spent_view at_other in
+        let old = holds.draws in
+        omega arith);
     few = holds.few;
     each = λ one u at. joined_fits one u (at_set (set s.views id (taken_in v w)) other one spent_view u at);
   }
+
+pub opening_length : (starts : List ℕ) → length (opening_words starts) ≡ width (length starts)
+opening_length starts = length-map-range_with_len (λ index. start_words starts (word_at index)) 0 (width (length starts))

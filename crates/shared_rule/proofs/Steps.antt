@@ -1,5 +1,5 @@
 -- A pass with a name makes any step but a draw, and the rule holds after it.
-use Rattle.std.proofs.Common.{◌≡◌, ◌≢◌, ◌⊎◌, ℕ, ◌+◌, ◌*◌, ◌/◌, ◌==◌, ◌<◌, ◌≤◌, ◌∙◌, Bool, true, false, if◌then◌else◌, List, [], ◌∷◌, ◌++◌, length, sum_by, Option, Some, None, refl, sym, ap, subst, inl, inr, arith, get_or, set}
+use Rattle.std.proofs.Common.{◌≡◌, ◌≢◌, ◌⊎◌, ℕ, ◌+◌, ◌<◌, ◌≤◌, ◌∙◌, if◌then◌else◌, List, [], ◌∷◌, length, sum_by, Some, refl, sym, ap, subst, inl, inr, arith, get_or, set}
 use Rattle.std.proofs.lemmas.Bool.{eq-eqb, ne_eqb, cases_eq}
 use Rattle.std.proofs.lemmas.List.{length-set}
 use mathlib.Core.Option.{some}
@@ -10,18 +10,18 @@ use Rattle.interleavings.specs.declared.activity.Activity.{Activity}
 use Rattle.interleavings.specs.declared.activity.Tally.{Tally}
 use Rattle.interleavings.specs.declared.kind.Kind.{Kind}
 use Rattle.interleavings.specs.AtomicStep.{SharedWord, Drawn, Number, word_of, word_after, May, activity_after, tally_after}
-use Rattle.interleavings.specs.History.{Person, State, Step, same_word, put_word, put_person, person_after, happens, after, IsHistory}
+use Rattle.interleavings.specs.History.{Person, State, Step, put_word, put_person, person_after, happens, after, IsHistory}
 use Rattle.interleavings.specs.Recording.{Among}
-use Rattle.shared_rule.specs.declared.limits.TheConstants.{DRAW_LIMIT, EVENT_LIMIT}
+use Rattle.shared_rule.specs.declared.limits.TheConstants.{EVENT_LIMIT}
 use Rattle.shared_rule.specs.declared.view.View.{View}
 use Rattle.shared_rule.specs.Accesses.{HasRoom}
 use Rattle.shared_rule.specs.Facts.{HistoriesKeep}
 use Rattle.shared_rule.specs.Holding.{view_weight, weight_of, weight_below, gathered_weight, begun_events, IsOwn, Fits, Holds}
-use Rattle.shared_rule.specs.Lines.{index_of, width, IsThere}
+use Rattle.shared_rule.specs.Lines.{index_of, IsThere}
 use Rattle.shared_rule.specs.Views.{view_after}
 use Rattle.shared_rule.proofs.Placed.{same_word_self, words_put}
 use Rattle.shared_rule.proofs.Weights.{sum_set, counts_name, alone, own_alone}
-use Rattle.shared_rule.proofs.Kinds.{IsNoDraw, name_stays, draws_stay, drawn_stays, few_begun, seen_kept}
+use Rattle.shared_rule.proofs.KindRows.{IsNoDraw, name_stays, draws_stay, drawn_stays, few_begun, seen_kept}
 use Rattle.shared_rule.proofs.Later.{Later, still_gathered, still_fits}
 
 -- the state of a thread that was put, and of another
@@ -112,7 +112,7 @@ module _ (starts : List ℕ) (s : table.State (Unit {0}) View) (holds : Holds st
     few : (t : ℕ) → t ≡ n ⊎ t ≢ n → begun_events (now.people t).activity ≤ EVENT_LIMIT
     few t (inl same) = subst (λ u. begun_events (now.people u).activity ≤ EVENT_LIMIT) (sym same)
         (subst (λ (a : Activity). begun_events a ≤ EVENT_LIMIT) (sym activity_is)
-          (few_begun kind at value v.activity met may room (subst (λ (a : Activity). begun_events a ≤ EVENT_LIMIT) own.1 (holds.few n))))
+        (few_begun kind at value v.activity met may room (subst (λ (a : Activity). begun_events a ≤ EVENT_LIMIT) own.1 (holds.few n))))
     few t (inr differs) = subst (λ (p : Person). begun_events p.activity ≤ EVENT_LIMIT) (sym (later.others t differs)) (holds.few t)
 
     named_still : (x : Step) → (x ≡ step) ⊎ Among x holds.steps → x.who < now.words Drawn
@@ -128,20 +128,20 @@ module _ (starts : List ℕ) (s : table.State (Unit {0}) View) (holds : Holds st
       steps = step ∷ holds.steps;
       lawful = lawful;
       words = λ word within. words_put (length starts) s.words st.words (word_of kind at) (word_after kind at value v.activity met) holds.wide inside holds.words word within
-        ∙ ap (λ x. put_word st.words (word_of kind at) x word) (sym value_is);
+          ∙ ap (λ x. put_word st.words (word_of kind at) x word) (sym value_is);
       wide = length-set s.words (index_of (word_of kind at)) (word_after kind at value v.activity met) ∙ holds.wide;
       named = named_still;
       once = λ weigh. (
-        let change = sum_set (view_weight weigh) s.views id v view there in
-        let same = weighs_still weigh in
-        let old = holds.once weigh in
-        let sums : sum_by (view_weight weigh) (set s.views id view) ≡ sum_by (view_weight weigh) s.views = omega arith in
-        sums ∙ old ∙ ap (weight_below weigh) (sym drawn_is));
+          let change = sum_set (view_weight weigh) s.views id v view there in
+          let same = weighs_still weigh in
+          let old = holds.once weigh in
+          let sums : sum_by (view_weight weigh) (set s.views id view) ≡ sum_by (view_weight weigh) s.views = omega arith in
+          sums ∙ old ∙ ap (weight_below weigh) (sym drawn_is));
       draws = (
-        let change = sum_set (λ (w : View). w.draws) s.views id v view there in
-        let same = draws_stay kind at apart v.draws in
-        let old = holds.draws in
-        omega (arith, drawn_is));
+          let change = sum_set (λ (w : View). w.draws) s.views id v view there in
+          let same = draws_stay kind at apart v.draws in
+          let old = holds.draws in
+          omega (arith, drawn_is));
       few = λ t. few t (cases_eq t n);
       each = λ other w at_other. others_fit other w (at_set s.views id other view w at_other);
     }

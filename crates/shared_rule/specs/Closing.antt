@@ -1,17 +1,25 @@
 -- What is known once the sharing has ended.
 use Rattle.std.specs.Prelude.{◌≡◌, ℕ, ◌+◌, ◌<◌, ◌≤◌, List, length, slice_get, Some, slice_index}
-use Rattle.core.specs.Mem.Slots.{slots_items}
-use Rattle.interleavings.specs.AtomicStep.{SharedWord, Drawn, IsIdle}
+use Rattle.std.specs.Mem.Slots.{slots_items, slots_len}
+use Rattle.interleavings.specs.AtomicStep.{SharedWord, Drawn, Number, IsIdle}
 use Rattle.interleavings.specs.History.{Step, IsHistory, after, newcomer}
 use Rattle.interleavings.specs.declared.activity.Activity.{Activity}
 use Rattle.shared_rule.specs.declared.closed.Closed.{Closed}
 use Rattle.shared_rule.specs.declared.limits.TheConstants.{DRAW_LIMIT}
 use Rattle.shared_rule.specs.declared.view.View.{View}
-use Rattle.shared_rule.specs.Lines.{index_of, IsThere}
+use Rattle.shared_rule.specs.Lines.{index_of, width, IsThere}
 
 -- a word as it was left
 abbrev pub last_word : Closed → SharedWord → ℕ
 last_word closed word = slice_index (slots_items closed.words.words) (index_of word)
+
+-- the cell is there
+abbrev pub HasCell : Closed → ℕ → Type 0
+HasCell closed cell = index_of (Number cell) < slots_len closed.words.words
+
+-- there are words of so many cells
+abbrev pub HasCells : Closed → ℕ → Type 0
+HasCells closed cells = slots_len closed.words.words ≡ width cells
 
 -- one history of atomic steps has led from the starting values to the words that were left, and in it each thread has done
 -- exactly what was gathered at its place, and is at no shared instruction; no other thread has done anything

@@ -1,8 +1,10 @@
 -- Where the shared words lie: each cell and each monitor in a line of memory of its own, and the count of names in one of its
 -- own too, so that no two threads that step on different ones meet in one line.
-use Rattle.std.specs.Prelude.{ℕ, ◌+◌, ◌*◌, ◌-◌, ◌/◌, ◌%◌, ◌==◌, ◌<◌, Bool, true, false, nat_le}
+use Rattle.std.specs.Prelude.{ℕ, ◌+◌, ◌*◌, ◌-◌, ◌/◌, ◌%◌, ◌==◌, ◌<◌, Bool, true, false, List, length, map, nat_le}
+use Rattle.std.specs.List.{range_with_len}
 use Rattle.stride_isa.specs.declared.limits.TheConstants.{MONITOR_LIMIT}
 use Rattle.interleavings.specs.AtomicStep.{SharedWord, Drawn, Value, Number, Monitor}
+use Rattle.interleavings.specs.History.{start_words}
 use Rattle.shared_rule.specs.declared.lines.TheConstants.{LINE_WORDS}
 
 -- the line of a word: the count of names has the first, then come as many as there can be monitors, then the cells, of which
@@ -45,3 +47,7 @@ word_in_line false false false line = Number (line - (MONITOR_LIMIT + 1))
 -- the word at this place; where nothing is kept, any word
 abbrev pub word_at : ℕ → SharedWord
 word_at index = word_in_line (index / LINE_WORDS == 0) (nat_le (index / LINE_WORDS) MONITOR_LIMIT) (index % LINE_WORDS == 0) (index / LINE_WORDS)
+
+-- the words at the start
+abbrev pub opening_words : List ℕ → List ℕ
+opening_words starts = map (λ index. start_words starts (word_at index)) (range_with_len 0 (width (length starts)))

@@ -1,9 +1,8 @@
 -- What one access tells its pass.
-use Rattle.std.specs.Prelude.{◌≡◌, ℕ, ◌/◌, ◌<◌, ◌≤◌, ◌^◌, true}
+use Rattle.std.specs.Prelude.{◌≡◌, ℕ, ◌/◌, ◌<◌, ◌≤◌, ◌^◌}
 use Rattle.atomic_table.specs.Table.{Step, Me}
 use Rattle.interleavings.specs.declared.kind.Kind.{Kind}
 use Rattle.interleavings.specs.declared.kind.Kind.TheVariants as by
-use Rattle.interleavings.specs.AtomicStep.{is_even}
 use Rattle.interleavings.specs.History.{greatest_seen}
 use Rattle.shared_rule.specs.declared.limits.TheConstants.{DRAW_LIMIT}
 use Rattle.shared_rule.specs.declared.view.View.{View}

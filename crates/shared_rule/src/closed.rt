@@ -1,11 +1,7 @@
 //! What is left once the sharing has ended.
 ghost use Rattle.std.specs.Prelude.{◌≡◌, ◌<◌};
-ghost use Rattle.core.specs.Mem.Slots.{slots_len, IsFull};
-ghost use Rattle.interleavings.specs.AtomicStep.{Drawn, Value, Number};
-ghost use Rattle.shared_rule.specs.Closing.{last_word};
+ghost use Rattle.std.specs.Mem.Slots.{slots_len, IsFull};
 
-use crate::lines::index_of;
-use crate::word::Word;
 use std::alloc::Global;
 
 /// The words as they were left.
@@ -13,29 +9,17 @@ pub struct Closed {
     pub(crate) words: atomic_table::Closed<(), Global>,
     ghost full: { IsFull words.words },
     ghost empty: { slots_len words.slots ≡ 0 },
+    ghost some_word: { 0 < slots_len words.words },
 }
 
-impl Closed {
-    /// The last value of a cell.
-    pub fn value(&self, cell: u32) -> u64
-        ensures { result ≡ last_word self.now (Value cell) }
-    {
-        self.words.word(index_of(Word::Value(cell)))
-    }
-
-    /// The last number of a cell.
-    pub fn number(&self, cell: u32) -> u64
-        ensures { result ≡ last_word self.now (Number cell) }
-    {
-        self.words.word(index_of(Word::Number(cell)))
-    }
-
-    /// How many names were drawn.
-    pub fn drawn(&self) -> u64
-        ensures { result ≡ last_word self.now Drawn }
-    {
-        self.words.word(0)
-    }
+/// The words of a table that was closed.
+pub(crate) fn closed_of(words: atomic_table::Closed<(), Global>) -> Closed
+    requires full { IsFull words.words }
+    requires empty { slots_len words.slots ≡ 0 }
+    requires some_word { 0 < slots_len words.words }
+    ensures { result.words ≡ words }
+{
+    Closed { words }
 }
 
 impl Drop for Closed {

@@ -9,8 +9,10 @@
 
 mod closed;
 mod facts;
+mod last_words;
 pub mod limits;
 mod lines;
+mod passes;
 mod rule;
 mod shared;
 mod view;

@@ -1,11 +1,13 @@
 //! Where the shared words lie.
-ghost use Rattle.std.specs.Prelude.{◌≡◌, ◌<◌, ◌≤◌, length};
+ghost use Rattle.std.specs.Prelude.{◌≡◌, ◌≤◌, length, IfOk};
 ghost use Rattle.interleavings.specs.AtomicStep.{Drawn, Value, Number, Monitor};
 ghost use Rattle.interleavings.specs.History.{start_words};
 ghost use Rattle.shared_rule.specs.Accesses.{word_named};
-ghost use Rattle.shared_rule.specs.Lines.{index_of as place_of, width as word_count, word_at};
+ghost use Rattle.shared_rule.specs.Lines.{index_of as place_of, opening_words as words_at_start, width as word_count, word_at};
 
 use crate::word::Word;
+use std::alloc::Global;
+use stride_base::NoMemory;
 use stride_isa::limits::MONITOR_LIMIT;
 
 /// How many words a line has: 128 bytes, two lines of a processor's cache, since some fetch two at once. The words of a table
@@ -13,7 +15,7 @@ use stride_isa::limits::MONITOR_LIMIT;
 pub(crate) const LINE_WORDS: usize = 16;
 
 /// How many words there are for so many cells.
-pub(crate) fn width(cells: usize) -> usize
+fn width(cells: usize) -> usize
     requires { cells ≤ 256 }
     ensures { result ≡ word_count cells }
 {
@@ -32,16 +34,24 @@ pub(crate) fn index_of(word: Word) -> usize
 }
 
 /// The word with which the place starts: the starting value of a cell where it is a cell's value, and else 0.
-pub(crate) fn first_word(starts: &[u64], place: usize) -> u64
+fn first_word(starts: &[u64], place: usize) -> u64
     ensures { result ≡ start_words starts.now (word_at place) }
 {
     let line = place / LINE_WORDS;
     if place % LINE_WORDS == 0 && line > MONITOR_LIMIT {
-        starts
-            .get(line - (MONITOR_LIMIT + 1))
-            .copied()
-            .unwrap_or(0)
+        starts.get(line - (MONITOR_LIMIT + 1)).copied().unwrap_or(0)
     } else {
         0
     }
+}
+
+/// The words with which cells of these starting values start.
+pub(crate) fn opening_words(alloc: Global, starts: &[u64]) -> Result<Vec<u64>, NoMemory>
+    requires { length starts.now ≤ 256 }
+    ensures { IfOk result (λ words. words.items ≡ words_at_start starts.now) }
+{
+    let words = (0..width(starts.len()))
+        .map(|place| first_word(starts, place))
+        .collect(alloc)?;
+    Ok(words)
 }

@@ -1,5 +1,5 @@
 -- What each kind of step keeps.
-use Rattle.std.proofs.Common.{◌≡◌, ℕ, ◌+◌, ◌*◌, ◌/◌, ◌==◌, ◌<◌, ◌≤◌, ◌∙◌, Bool, true, false, cond, if◌then◌else◌, List, [], ◌∷◌, ◌++◌, length, count_by, max, Option, Some, None, refl, sym, ap, subst, arith}
+use Rattle.std.proofs.Common.{◌≡◌, ℕ, ◌+◌, ◌*◌, ◌/◌, ◌==◌, ◌≤◌, Bool, true, false, cond, List, [], ◌∷◌, ◌++◌, count_by, max, Option, Some, None, refl, sym, ap, arith}
 use Rattle.std.proofs.lemmas.Bool.{cond_both, eqb-true}
 use Rattle.std.proofs.lemmas.List.Sums.{count_by-le-length, sum_by_push}
 use Rattle.interleavings.specs.declared.activity.Activity.{Activity}
@@ -10,8 +10,8 @@ use Rattle.interleavings.specs.declared.event.Event.{Event}
 use Rattle.interleavings.specs.declared.event.Event.TheVariants as events
 use Rattle.interleavings.specs.declared.kind.Kind.{Kind}
 use Rattle.interleavings.specs.declared.kind.Kind.TheVariants as by
-use Rattle.interleavings.specs.AtomicStep.{SharedWord, Drawn, Value, Number, Monitor, word_of, word_after, Begins, Suits, May, is_even, phase_if, marked, read_if, entered_if, finished_by, with_event, activity_after, phase_after, name_after, seen_if, seen_after, number_in, turn_in}
-use Rattle.interleavings.specs.History.{is_drawn, put_word, greatest_seen}
+use Rattle.interleavings.specs.AtomicStep.{SharedWord, Drawn, Number, word_of, word_after, Begins, May, is_even, phase_if, read_if, entered_if, with_event, activity_after, name_after, seen_if, seen_after, number_in, held_turn, turn_or_zero}
+use Rattle.interleavings.specs.History.{put_word, greatest_seen}
 use Rattle.shared_rule.specs.declared.limits.TheConstants.{EVENT_LIMIT}
 use Rattle.shared_rule.specs.Accesses.{HasRoom}
 use Rattle.shared_rule.specs.Holding.{is_entered, under_way, begun_events}
@@ -63,10 +63,10 @@ drawn_stays by.Draw at apart words value = absurd (apart refl)
 
 -- one event more that counts, or one that doesn't
 counted : (done : List Event) (event : Event) → is_entered event ≡ true → count_by is_entered (done ++ event ∷ []) ≡ count_by is_entered done + 1
-counted done event is = omega (arith, sum_by_push (λ x. cond (is_entered x) 1 0) done event, ap (λ b. cond b 1 0) is)
+counted done event is = omega (arith, sum_by_push (λ x. cond (is_entered x) 1 0) done event, ap {B = ℕ} (λ b. cond b 1 0) is)
 
 uncounted : (done : List Event) (event : Event) → is_entered event ≡ false → count_by is_entered (done ++ event ∷ []) ≡ count_by is_entered done
-uncounted done event is = omega (arith, sum_by_push (λ x. cond (is_entered x) 1 0) done event, ap (λ b. cond b 1 0) is)
+uncounted done event is = omega (arith, sum_by_push (λ x. cond (is_entered x) 1 0) done event, ap {B = ℕ} (λ b. cond b 1 0) is)
 
 few_read : (done : List Event) (cell value bound most : ℕ) (b : Bool) → count_by is_entered done + 1 ≤ most → count_by is_entered (with_event done (read_if b (Loaded cell value) bound)) + under_way (phase_if b Idle (Loaded cell value)) ≤ most
 few_read done cell value bound most true few = omega (arith, counted done (events.Read cell value bound) refl)
@@ -100,7 +100,7 @@ few_after by.Complete at value activity (Stored cell n None v) met begins room f
 few_after by.Complete at value activity (Stored cell n (Some old) v) met begins room few = omega (arith, counted activity.events (events.Update cell old v (n + 1)) refl)
 few_after by.Look at value activity Idle met begins room few = few_looked activity.events at (met / 2) EVENT_LIMIT (is_even met) (omega (arith, count_by-le-length is_entered activity.events))
 few_after by.Enter at value activity (Looked monitor turn) met begins room few = few_entered activity.events at (turn + 1) EVENT_LIMIT (met == 2 * turn) few
-few_after by.Leave at value activity Idle met begins room few = omega (arith, uncounted activity.events (events.Exit at _) refl)
+few_after by.Leave at value activity Idle met begins room few = omega (arith, uncounted activity.events (events.Exit at (turn_or_zero (held_turn at activity.held))) refl)
 few_after by.Draw at value activity Idle met begins room few = few
 few_after kind at value activity phase met begins room few = absurd begins
 
@@ -115,8 +115,8 @@ AreSeen words seen = (cell : ℕ) → greatest_seen cell seen ≤ words (Number 
 seen_more : (words : SharedWord → ℕ) (at number : ℕ) (seen : List SeenNumber) → AreSeen words seen → number ≤ words (Number at) / 2 → AreSeen words (record { cell = at; number = number } ∷ seen)
 seen_more words at number seen are le cell =
     cond_both (at == cell) number 0 (λ (x : ℕ). max x (greatest_seen cell seen) ≤ words (Number cell) / 2)
-      (λ same. (let below = are cell in let here : words (Number at) ≡ words (Number cell) = ap (λ c. words (Number c)) (eqb-true at cell same) in omega arith))
-      (λ other. (let below = are cell in omega arith))
+    (λ same. (let below = are cell in let here : words (Number at) ≡ words (Number cell) = ap (λ c. words (Number c)) (eqb-true at cell same) in omega arith))
+    (λ other. (let below = are cell in omega arith))
 
 seen_read : (words : SharedWord → ℕ) (at met : ℕ) (seen : List SeenNumber) (b : Bool) → AreSeen words seen → met ≡ words (Number at) → AreSeen words (seen_if b (record { cell = at; number = met / 2 }) seen)
 seen_read words at met seen true are is = seen_more words at (met / 2) seen are (omega arith)

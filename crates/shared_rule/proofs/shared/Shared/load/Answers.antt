@@ -1,0 +1,7 @@
+use Rattle.shared_rule.specs.Accesses.{word_named}
+use Rattle.shared_rule.specs.Passes.{starts_in}
+use Rattle.shared_rule.proofs.Accessing.{named_apart, named_there, index_fits, loads}
+use Rattle.shared_rule.proofs.shared.Shared.load.Goals as goal
+
+pub load-requires : goal.load-requires
+load-requires c = (c.requires.pass.table, index_fits c.args.self.now c.args.word c.requires.word c.index_of.result c.index_of.ensures, loads (starts_in c.args.self.now) c.facts.ensures c.args.self.now.table.shared.table_id.slots c.args.pass.now.id c.args.pass.now.me (word_named c.args.word) c.index_of.result c.index_of.ensures (named_apart c.args.word) (named_there c.args.self.now c.args.word c.requires.word) c.requires.may)
