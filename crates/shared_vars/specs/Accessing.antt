@@ -1,5 +1,5 @@
 -- Reads, writes and updates of a cell, as rows of atomic steps.
-use Rattle.std.specs.Prelude.{◌≡◌, ℕ, ◌+◌, ◌*◌, ◌≤◌, false, List, [], ◌∷◌, Option, Some, None}
+use Rattle.std.specs.Prelude.{◌≡◌, ℕ, ◌+◌, ◌*◌, false, List, [], ◌∷◌, Option, Some, None}
 use Rattle.stride_isa.specs.Changes.{applied}
 use Rattle.stride_isa.specs.declared.change.Change.{Change}
 use Rattle.interleavings.specs.declared.kind.Kind.TheVariants as by

@@ -1,18 +1,18 @@
 -- What failed tries to claim leave as it was, and what a claim changes.
-use Rattle.std.proofs.Common.{◌≡◌, ◌≢◌, ℕ, ◌+◌, ◌*◌, ◌/◌, ◌%◌, ◌==◌, ◌∙◌, Bool, true, false, List, [], ◌∷◌, Option, Some, None, refl, sym, ap, subst, arith}
+use Rattle.std.proofs.Common.{◌≡◌, ◌≢◌, ℕ, ◌*◌, ◌/◌, ◌%◌, ◌∙◌, true, false, List, [], ◌∷◌, refl, sym, ap, subst, arith}
 use Rattle.std.specs.Prelude.{IsSome, length, ◌<◌}
 use Rattle.std.proofs.lemmas.Bool.{eq-eqb, ne_eqb}
 use Rattle.interleavings.specs.declared.activity.Activity.{Activity}
 use Rattle.interleavings.specs.declared.activity.Phase.{Phase}
 use Rattle.interleavings.specs.declared.activity.Phase.TheVariants.{Idle, Numbered, Marked}
 use Rattle.interleavings.specs.declared.kind.Kind.TheVariants as by
-use Rattle.interleavings.specs.AtomicStep.{is_even, phase_if, marked, number_in, activity_after}
+use Rattle.interleavings.specs.AtomicStep.{is_even, phase_if, activity_after}
 use Rattle.shared_rule.specs.declared.limits.TheConstants.{EVENT_LIMIT}
 use Rattle.shared_rule.specs.declared.view.View.{View}
 use Rattle.shared_rule.specs.Passes.{IsReady, IsSameBeside}
 use Rattle.shared_rule.specs.Plays.{Makes}
 use Rattle.shared_rule.specs.Views.{view_after}
-use Rattle.write_turns.specs.Claiming.{IsSeen, Try, Odd, Lost, AreTries, after_tries, Takes, HasClaimed}
+use Rattle.write_turns.specs.Claiming.{Try, Odd, Lost, AreTries, after_tries, Takes, HasClaimed}
 
 -- the activity in another phase
 abbrev in_phase : Activity → Phase → Activity
@@ -63,8 +63,8 @@ tried_odd cell met before now next idle tried makes odd = record {
   failed = (odd, tried.failed);
   view = makes.view ∙ ap (λ v. view_after by.SeeNumber cell 0 v met) tried.view;
   activity = ap (λ (v : View). v.activity) makes.view
-    ∙ saw_odd cell met now.activity (ap (λ (a : Activity). a.phase) tried.activity ∙ idle) odd
-    ∙ tried.activity;
+      ∙ saw_odd cell met now.activity (ap (λ (a : Activity). a.phase) tried.activity ∙ idle) odd
+      ∙ tried.activity;
   seen = ap (λ (v : View). v.seen) makes.view ∙ tried.seen;
   same = record {
     live = ap (λ (v : View). v.live) makes.view ∙ tried.same.live;
@@ -77,15 +77,15 @@ tried_odd cell met before now next idle tried makes odd = record {
 module _ (cell met n other : ℕ) (before now saw next : View) (idle : before.activity.phase ≡ Idle) (tried : HasTried cell before now) (sees : Makes by.SeeNumber cell 0 now met saw) (seen_is : met ≡ 2 * n) (claims : Makes by.Claim cell 0 saw other next) where
   path : next ≡ view_after by.Claim cell 0 (view_after by.SeeNumber cell 0 (after_tries cell before tried.tries) (2 * n)) other
   path = claims.view
-    ∙ ap (λ v. view_after by.Claim cell 0 v other) (sees.view ∙ ap (λ m. view_after by.SeeNumber cell 0 now m) seen_is ∙ ap (λ v. view_after by.SeeNumber cell 0 v (2 * n)) tried.view)
+      ∙ ap (λ v. view_after by.Claim cell 0 v other) (sees.view ∙ ap (λ m. view_after by.SeeNumber cell 0 now m) seen_is ∙ ap (λ v. view_after by.SeeNumber cell 0 v (2 * n)) tried.view)
 
   shown : next.activity ≡ activity_after by.Claim cell 0 (in_phase before.activity (Numbered cell n)) other
   shown = ap (λ (v : View). v.activity) claims.view
-    ∙ ap (λ (a : Activity). activity_after by.Claim cell 0 a other)
+      ∙ ap (λ (a : Activity). activity_after by.Claim cell 0 a other)
       (ap (λ (v : View). v.activity) sees.view
-        ∙ ap (λ m. activity_after by.SeeNumber cell 0 now.activity m) seen_is
-        ∙ ap (λ (a : Activity). activity_after by.SeeNumber cell 0 a (2 * n)) tried.activity
-        ∙ saw_even cell n before.activity)
+      ∙ ap (λ m. activity_after by.SeeNumber cell 0 now.activity m) seen_is
+      ∙ ap (λ (a : Activity). activity_after by.SeeNumber cell 0 a (2 * n)) tried.activity
+      ∙ saw_even cell n before.activity)
 
   beside : IsSameBeside before next
   beside = record {

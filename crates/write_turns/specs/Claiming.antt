@@ -1,5 +1,5 @@
 -- How a writer comes to a number of its own.
-use Rattle.std.specs.Prelude.{◌≡◌, ◌≢◌, ℕ, ◌*◌, ◌/◌, true, false, List, [], ◌∷◌, Option, Some, None}
+use Rattle.std.specs.Prelude.{◌≡◌, ◌≢◌, ℕ, ◌*◌, false, List, [], ◌∷◌, Option, Some, None}
 use Rattle.interleavings.specs.declared.activity.Phase.TheVariants.{Marked}
 use Rattle.interleavings.specs.declared.kind.Kind.TheVariants as by
 use Rattle.interleavings.specs.AtomicStep.{is_even}

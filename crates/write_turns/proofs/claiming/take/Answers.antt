@@ -12,7 +12,7 @@ loop-preserved-in-Some-see g c =
       iterator = (tt, tt);
       pass = c.try_claim.ensures.pass;
       tried = tried_lost c.args.cell saw.0 c.in-Some-see.seen claim.0 (view_of c.args.pass.now) (view_of c.loop.pass) (view_of c.see.new.pass) (view_of c.try_claim.new.pass) c.requires.ready.idle c.loop.invariant.tried saw.1 saw.2 claim.1
-        (eqb-false claim.0 (2 * c.in-Some-see.seen) (sym claim.2));
+          (eqb-false claim.0 (2 * c.in-Some-see.seen) (sym claim.2));
     }
 
 pub loop-preserved : goal.loop-preserved

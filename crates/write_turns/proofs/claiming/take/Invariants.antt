@@ -6,5 +6,5 @@ abbrev pub invariant-loop : goal.invariant-loop
 invariant-loop g l = record {
   iterator : (goal.iterator-loop g).can_next l.iterator' × (goal.iterator-loop g).is_finite l.iterator';
   pass : IsPassOf l.shared l.pass;
-  tried : HasTried l.cell (view_of l.fn.pass) (view_of l.pass)
+  tried : HasTried l.cell (view_of l.fn.pass) (view_of l.pass);
 }
