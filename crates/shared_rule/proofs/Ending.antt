@@ -11,6 +11,7 @@ use Rattle.interleavings.specs.declared.activity.Activity.{Activity}
 use Rattle.interleavings.specs.AtomicStep.{SharedWord, Drawn, IsIdle}
 use Rattle.interleavings.specs.History.{Person, State, Step, after, IsHistory, newcomer}
 use Rattle.std.specs.Mem.Slots.{slots_items}
+use Rattle.interleavings.specs.Recording.{Among}
 use Rattle.shared_rule.specs.Closing.{last_word, AreCounted, IsOneHistory, IsWhole}
 use Rattle.shared_rule.specs.declared.closed.Closed.{Closed}
 use Rattle.shared_rule.specs.declared.limits.TheConstants.{DRAW_LIMIT}
@@ -248,10 +249,17 @@ module _ (starts : List ℕ) (s : table.State (Unit {0}) View) (holds : Holds st
   idle_by t (inl less) = (let found = gathered_at st v.gathered are t less in subst (λ (a : Activity). IsIdle a.phase) (sym found.person) found.idle)
   idle_by t (inr past) = subst (λ (p : Person). IsIdle p.activity.phase) (sym (stranger t past)) tt
 
-  other_by : (t : ℕ) (here : (t < many) ⊎ (many ≤ t)) → many ≤ t → st.people (name_by t here) ≡ newcomer
-  unfolding name_by
-  other_by t (inl less) past = absurd (omega arith)
-  other_by t (inr past_too) past = stranger t past
+  place_within : (n : ℕ) (here : (n < many) ⊎ (many ≤ n)) → n < many → place_by n here < many
+  unfolding place_by
+  place_within n (inl less) within = (let found = stands n less in slice_get_within v.gathered found.place found.activity found.there)
+  place_within n (inr past) within = absurd (omega arith)
+
+  -- no other thread has made a step
+  only_these : (made : List Step) → ((x : Step) → Among x made → x.who < many) → (x : Step) → Among x (map (relabelled starts place name place-name name-place) made) → x.who < many
+  unfolding place
+  only_these [] named x among = absurd among
+  only_these (y ∷ made) named x (inl same) = (let within = place_within y.who (cases_lt y.who many) (named y (inl refl)) in let who : x.who ≡ place y.who = ap (λ (z : Step). z.who) same in omega arith)
+  only_these (y ∷ made) named x (inr among) = only_these made (λ z there. named z (inr there)) x among
 
   person_is : (t : ℕ) → (after starts all_steps).people t ≡ st.people (name t)
   person_is t = (after_same starts place name place-name name-place holds.steps).people t
@@ -261,7 +269,7 @@ module _ (starts : List ℕ) (s : table.State (Unit {0}) View) (holds : Holds st
     pub lawful : IsHistory starts told
     pub threads : (t : ℕ) → t < many → slice_get v.gathered t ≡ Some ((after starts told).people t).activity
     pub idle : (t : ℕ) → IsIdle ((after starts told).people t).activity.phase
-    pub others : (t : ℕ) → many ≤ t → (after starts told).people t ≡ newcomer
+    pub only : (x : Step) → Among x told → x.who < many
     pub words : (word : SharedWord) → IsThere (length starts) word → (after starts told).words word ≡ get_or s.words (index_of word) 0
 
   told : IsTold all_steps
@@ -270,7 +278,7 @@ module _ (starts : List ℕ) (s : table.State (Unit {0}) View) (holds : Holds st
     lawful = history_same starts place name place-name name-place holds.steps holds.lawful;
     threads = λ t less. thread_by t (cases_lt t many) less ∙ ap (λ (p : Person). Some p.activity) (sym (person_is t));
     idle = λ t. subst (λ (p : Person). IsIdle p.activity.phase) (sym (person_is t)) (idle_by t (cases_lt t many));
-    others = λ t past. person_is t ∙ other_by t (cases_lt t many) past;
+    only = only_these holds.steps (λ x among. (let less = holds.named x among in omega arith));
     words = λ word within. (after_same starts place name place-name name-place holds.steps).words word ∙ sym (holds.words word within);
   }
 
@@ -329,7 +337,7 @@ module _ (starts : List ℕ) (facts : HistoriesKeep) (id : ℕ) (v : View) (star
         lawful = is_told.lawful;
         threads = is_told.threads;
         idle = is_told.idle;
-        others = is_told.others;
+        only = is_told.only;
         words = λ word within. is_told.words word within ∙ ap (λ (xs : List ℕ). get_or xs (index_of word) 0) words_are;
       } in
       (steps, subst (λ xs. IsOneHistory xs v.gathered closed steps) (sym starts_are) shown)

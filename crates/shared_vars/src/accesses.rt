@@ -69,11 +69,11 @@ pub fn update<R: Wait>(
     ensures steps { Updates cell change (view_of pass.old) result.0 result.1 (view_of pass.new) }
     ensures event { HasFinished (events.Update cell result.0 (applied change result.0) result.1) (view_of pass.old) (view_of pass.new) }
 {
-    let n = take(rt, shared, pass, cell);
+    let below = take(rt, shared, pass, cell);
     let old = fetch(shared, pass, cell);
     store_value(shared, pass, cell, change.applied(old));
-    complete(shared, pass, cell, n);
-    (old, n + 1)
+    complete(shared, pass, cell, below);
+    (old, below + 1)
 }
 
 // A writer is under way, so it has to go on first.
