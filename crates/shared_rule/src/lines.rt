@@ -8,7 +8,7 @@ ghost use Rattle.shared_rule.specs.Lines.{index_of as place_of, opening_words as
 use crate::word::Word;
 use std::alloc::Global;
 use stride_base::NoMemory;
-use stride_isa::limits::MONITOR_LIMIT;
+use stride_isa::limits::{CELL_LIMIT, MONITOR_LIMIT};
 
 /// How many words a line has: 128 bytes, two lines of a processor's cache, since some fetch two at once. The words of a table
 /// begin at an address that 16 divides, so a cell's value and its number always lie in one line of the cache.
@@ -16,7 +16,7 @@ pub(crate) const LINE_WORDS: usize = 16;
 
 /// How many words there are for so many cells.
 fn width(cells: usize) -> usize
-    requires { cells ≤ 256 }
+    requires { cells ≤ CELL_LIMIT }
     ensures { result ≡ word_count cells }
 {
     LINE_WORDS * (cells + MONITOR_LIMIT + 1)
@@ -47,7 +47,7 @@ fn first_word(starts: &[u64], place: usize) -> u64
 
 /// The words with which cells of these starting values start.
 pub(crate) fn opening_words(alloc: Global, starts: &[u64]) -> Result<Vec<u64>, NoMemory>
-    requires { length starts.now ≤ 256 }
+    requires { length starts.now ≤ CELL_LIMIT }
     ensures { IfOk result (λ words. words.items ≡ words_at_start starts.now) }
 {
     let words = (0..width(starts.len()))

@@ -17,13 +17,14 @@ use crate::word::Word;
 use atomic_table::Table;
 use std::alloc::Global;
 use stride_base::NoMemory;
+use stride_isa::limits::{CELL_LIMIT, MONITOR_LIMIT};
 
 impl Shared {
     /// Prepares the words of cells with these starting values and of so many monitors. The first pass has no name, and may draw
     /// every name. Want of memory is the one refusal of all calls on shared words.
     pub fn prepare(alloc: Global, starts: &[u64], monitors: u32) -> Result<(Shared, Pass), NoMemory>
-        requires cells { length starts.now ≤ 256 }
-        requires monitors { monitors ≤ 64 }
+        requires cells { length starts.now ≤ CELL_LIMIT }
+        requires monitors { monitors ≤ MONITOR_LIMIT }
         ensures { IfOk result (λ made. IsPrepared starts.now monitors made.0 made.1) }
     {
         let plan = Plan {
