@@ -82,12 +82,12 @@ given_one slot other same = elim (cases_slot slot other) [
 ]
 
 -- a count in place of another is that of its slot, and the others stay
-pub count_put : (rows : List (List ℕ)) (slot : Slot) (row : List ℕ) (value : ℕ) → slot.row < length rows → slot.number < length row → ((i : ℕ) → get_or row i 0 ≡ get_or (get_or rows slot.row []) i 0) → (other : Slot) → ((slot ≡ other) × (is_given (Some slot) other ≡ 1) × (counted (set rows slot.row (set row slot.number value)) other ≡ value)) ⊎ ((is_given (Some slot) other ≡ 0) × (counted (set rows slot.row (set row slot.number value)) other ≡ counted rows other))
-count_put rows slot row value there within same other = elim (cases_slot slot other) [
+pub count_put : (rows : List (List ℕ)) (slot : Slot) (numbers : List ℕ) (value : ℕ) → slot.row < length rows → slot.number < length numbers → ((i : ℕ) → get_or numbers i 0 ≡ get_or (get_or rows slot.row []) i 0) → (other : Slot) → ((slot ≡ other) × (is_given (Some slot) other ≡ 1) × (counted (set rows slot.row (set numbers slot.number value)) other ≡ value)) ⊎ ((is_given (Some slot) other ≡ 0) × (counted (set rows slot.row (set numbers slot.number value)) other ≡ counted rows other))
+count_put rows slot numbers value there within same other = elim (cases_slot slot other) [
   | inl equal ↦
       let test : same_slot slot other ≡ true = equal.1 in
-      inl (equal.0, rw test refl, ap (counted (set rows slot.row (set row slot.number value))) (sym equal.0) ∙ put_here rows slot (row) 0 value there within)
-  | inr apart ↦ let test : same_slot slot other ≡ false = apart.1 in inr (rw test refl, put_other rows slot (row) 0 value there same other apart.1)
+      inl (equal.0, rw test refl, ap (counted (set rows slot.row (set numbers slot.number value))) (sym equal.0) ∙ put_here rows slot numbers 0 value there within)
+  | inr apart ↦ let test : same_slot slot other ≡ false = apart.1 in inr (rw test refl, put_other rows slot numbers 0 value there same other apart.1)
 ]
 
 -- one more

@@ -1,12 +1,13 @@
 -- For which slots deeds wait, as one deed more stands.
 use Rattle.std.proofs.Common.{◌≡◌, ◌≢◌, ℕ, ◌+◌, ◌*◌, ◌<◌, ◌≤◌, true, false, List, [], Option, Some, None, length, refl, sym, ◌∙◌, ap, inl, inr, arith, add-one}
-use Rattle.std.specs.Prelude.{ltb, option_and_then, slice_set}
+use Rattle.std.specs.Prelude.{ltb, min, option_and_then, slice_set}
+use Rattle.std.proofs.Math.Nat.{min-eq_right, min-le_right, zero-min}
 use Rattle.std.proofs.lemmas.Bool.{cases_eq, cases_lt, le-ltb, lt-ltb}
 use Rattle.std.proofs.lemmas.List.{get_or_past, get_or-set_same, get_or-set_other, length-set}
 use Rattle.interleavings.specs.declared.traces.Place.{Place}
 use Rattle.event_order.specs.Backs.{Gives}
 use Rattle.event_order.specs.Deeds.{deed_at, gives_at, gives_of, size}
-use Rattle.event_order.specs.Fronts.{IsFront, IsRaised, awaited, awaited_of, done_of, waiting}
+use Rattle.event_order.specs.Fronts.{IsFront, IsRaised, awaited, awaited_of, done_of, none_done, tallied, waiting}
 use Rattle.event_order.specs.Sums.{upto}
 use Rattle.event_order.specs.Tables.{is_given, same_slot}
 use Rattle.event_order.specs.declared.deed.Deed.{Deed}
@@ -72,6 +73,27 @@ module _ (rows : List (List Deed)) where
   -- the first threads count so much at most
   pub waiting_few : (done : ℕ → ℕ) (slot : Slot) (n most : ℕ) → ((thread : ℕ) → size rows thread ≤ most) → upto (awaited_of rows done slot) n ≤ n * most
   waiting_few done slot n most small = upto_most (awaited_of rows done slot) n most (λ thread below. let few = awaited_few done slot thread (size rows thread) in let count = small thread in omega arith)
+
+  -- the deeds of a thread before a place count at most once each
+  pub tallied_few : (place : ℕ) (slot : Slot) (thread most : ℕ) → size rows thread ≤ most → tallied rows place slot thread ≤ most
+  tallied_few place slot thread most small =
+      let few = awaited_few none_done slot thread (min place (size rows thread)) in
+      let cut = min-le_right place (size rows thread) in
+      omega arith
+
+  -- and so do those of the first threads
+  pub tallied_most : (place : ℕ) (slot : Slot) (n most : ℕ) → ((thread : ℕ) → size rows thread ≤ most) → upto (tallied rows place slot) n ≤ n * most
+  tallied_most place slot n most small = upto_most (tallied rows place slot) n most (λ thread below. tallied_few place slot thread most (small thread))
+
+  -- before the first place there is none
+  pub tallied_none : (slot : Slot) (n : ℕ) → upto (tallied rows 0 slot) n ≡ 0
+  tallied_none slot n =
+      let none = upto_most (tallied rows 0 slot) n 0 (λ thread below. let e : tallied rows 0 slot thread ≡ 0 = ap (upto (awaited rows none_done slot thread)) (zero-min (size rows thread)) in omega arith) in
+      omega arith
+
+  -- before a place behind the last of each thread there are all
+  pub tallied_all : (place : ℕ) (slot : Slot) → ((thread : ℕ) → size rows thread ≤ place) → upto (tallied rows place slot) (length rows) ≡ waiting rows none_done slot
+  tallied_all place slot past = upto_same (tallied rows place slot) (awaited_of rows none_done slot) (length rows) (λ thread below. ap (upto (awaited rows none_done slot thread)) (min-eq_right (past thread)))
 
   -- a thread with a deed is one of the threads
   pub thread_there : (thread i : ℕ) → i < size rows thread → thread < length rows

@@ -1,5 +1,5 @@
 -- How far the threads are: which deeds stand, for which slots deeds still wait, and what an order has kept on its way.
-use Rattle.std.specs.Prelude.{◌≡◌, ◌≢◌, ℕ, ◌+◌, ◌<◌, ◌≤◌, ◌⊎◌, ltb, Bool, true, false, if◌then◌else◌, List, [], ◌++◌, Option, Some, None, length, slice_index_or}
+use Rattle.std.specs.Prelude.{◌≡◌, ◌≢◌, ℕ, ◌+◌, ◌<◌, ◌≤◌, ◌⊎◌, ltb, Bool, true, false, if◌then◌else◌, List, [], ◌++◌, Option, Some, None, length, min, slice_index_or}
 use Rattle.interleavings.specs.declared.traces.Place.{Place}
 use Rattle.interleavings.specs.TraceLists.{TraceLists}
 use Rattle.event_order.specs.Cycles.{IsStuck}
@@ -35,6 +35,10 @@ awaited rows done slot thread i = if ltb i (done thread) then 0 else is_given (g
 -- how many deeds of a thread fill the slot and don't stand yet
 abbrev pub awaited_of : List (List Deed) → (ℕ → ℕ) → Slot → ℕ → ℕ
 awaited_of rows done slot thread = upto (awaited rows done slot thread) (size rows thread)
+
+-- how many of the deeds of a thread before a place fill the slot
+abbrev pub tallied : List (List Deed) → ℕ → Slot → ℕ → ℕ
+tallied rows place slot thread = upto (awaited rows none_done slot thread) (min place (size rows thread))
 
 -- how many deeds fill the slot and don't stand yet
 abbrev pub waiting : List (List Deed) → (ℕ → ℕ) → Slot → ℕ

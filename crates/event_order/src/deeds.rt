@@ -96,6 +96,18 @@ impl Deeds {
         self.rows[thread as usize].len() as u32
     }
 
+    /// How many events the thread that has the most of them has.
+    pub(crate) fn longest(&self) -> u32
+        ensures longest { (thread : ℕ) → size self.now thread ≤ result }
+        ensures small { result ≤ FUEL_LIMIT }
+    {
+        let mut longest = 0;
+        for thread in 0..self.threads() {
+            longest = self.count(thread).max(longest);
+        }
+        longest
+    }
+
     /// How many events there are.
     pub(crate) fn total(&self) -> usize {
         let mut total: usize = 0;

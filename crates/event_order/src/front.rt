@@ -2,7 +2,7 @@
 //! for.
 ghost use Rattle.std.specs.Prelude.{◌≡◌, ℕ, ◌+◌, ◌-◌, ◌*◌, ◌<◌, ◌≤◌, ◌↔◌, length, slice_set, IfOk, IsTrue, OnOk, Some as Found, None as Nothing};
 ghost use Rattle.event_order.specs.Deeds.{deed_at, size, Needs};
-ghost use Rattle.event_order.specs.Fronts.{awaited_of, done_of, none_done, next_of, waiters_of, waiting as waits_of, AreNexts, AreWaiters, IsFirstReady, IsFront, IsNextAt, IsRaised, MayWait, NoneReady};
+ghost use Rattle.event_order.specs.Fronts.{done_of, none_done, next_of, tallied, waiters_of, waiting as waits_of, AreNexts, AreWaiters, IsFirstReady, IsFront, IsNextAt, IsRaised, MayWait, NoneReady};
 ghost use Rattle.event_order.specs.Sums.{upto};
 ghost use Rattle.event_order.specs.Tables.{counted, rows_of};
 ghost use Rattle.event_order.specs.declared.deed.Deed.{Deed as Done};
@@ -92,19 +92,45 @@ pub(crate) struct Front {
     pub(crate) from: u32,
 }
 
-// Counts the slots that the deeds of a thread fill.
+/// How many deeds of a thread are tallied before those of the next thread. Those that many threads make at about the same time
+/// fill slots that lie near each other, so that their counts are met while they are at hand.
+const BURST: u32 = 1_024;
+
+// Counts the slots that the deeds of a thread from one place on, and before another, fill.
 fn tally_thread(
     alloc: Global,
     deeds: &Deeds,
     thread: u32,
+    from: u32,
+    to: u32,
     table: &mut Counts,
 ) -> Result<(), NoMemory>
     requires thread { thread < length deeds.now }
-    requires few { (slot : Numbered) → counted (rows_of table.old.rows.items) slot ≤ (THREAD_LIMIT - 1) * FUEL_LIMIT }
-    ensures { OnOk result ((slot : Numbered) → counted (rows_of table.new.rows.items) slot ≡ counted (rows_of table.old.rows.items) slot + awaited_of deeds.now none_done slot thread) }
+    requires few { (slot : Numbered) → counted (rows_of table.old.rows.items) slot ≤ 2 * THREAD_LIMIT * FUEL_LIMIT }
+    requires order { from ≤ to }
+    ensures { OnOk result ((slot : Numbered) → counted (rows_of table.new.rows.items) slot + tallied deeds.now from slot thread ≡ counted (rows_of table.old.rows.items) slot + tallied deeds.now to slot thread) }
 {
-    for place in 0..deeds.count(thread) {
+    let count = deeds.count(thread);
+    for place in from.min(count)..to.min(count) {
         table.raise(alloc, deeds.gives(Place { thread, place }))?;
+    }
+    Ok(())
+}
+
+// Counts the slots that the deeds of all threads from one place on, and before another, fill.
+fn tally_burst(
+    alloc: Global,
+    deeds: &Deeds,
+    from: u32,
+    to: u32,
+    table: &mut Counts,
+) -> Result<(), NoMemory>
+    requires order { from ≤ to }
+    requires before { (slot : Numbered) → counted (rows_of table.old.rows.items) slot ≡ upto (tallied deeds.now from slot) (length deeds.now) }
+    ensures { OnOk result ((slot : Numbered) → counted (rows_of table.new.rows.items) slot ≡ upto (tallied deeds.now to slot) (length deeds.now)) }
+{
+    for thread in 0..deeds.threads() {
+        tally_thread(alloc, deeds, thread, from, to, table)?;
     }
     Ok(())
 }
@@ -113,9 +139,13 @@ fn tally_thread(
 fn tally(alloc: Global, deeds: &Deeds) -> Result<Counts, NoMemory>
     ensures { IfOk result (λ table. (slot : Numbered) → counted (rows_of table.rows.items) slot ≡ waits_of deeds.now none_done slot) }
 {
+    let longest = deeds.longest();
     let mut table = Counts::new(alloc);
-    for thread in 0..deeds.threads() {
-        tally_thread(alloc, deeds, thread, &mut table)?;
+    let mut from = 0;
+    while from < longest {
+        let to = from + BURST;
+        tally_burst(alloc, deeds, from, to, &mut table)?;
+        from = to;
     }
     Ok(table)
 }

@@ -1,6 +1,7 @@
 -- Finding the write of a read, in the row and in the index.
 use Rattle.std.proofs.Common.{◌≡◌, ◌∙◌, ℕ, ◌+◌, ◌-◌, ◌*◌, ◌^◌, ◌<◌, ◌≤◌, inl, inr, List, length, sym, ap, subst, arith}
 use Rattle.std.specs.Prelude.{Option, Some, None, slice_get, slice_index}
+use Rattle.std.specs.Option.{IfSome}
 use Rattle.std.proofs.Math.Pow.{pow_mono}
 use Rattle.std.proofs.lemmas.Bool.{cases_eq, cases_lt}
 use Rattle.std.proofs.lemmas.Option.{slice_get-get_or}
@@ -10,8 +11,8 @@ use Rattle.interleavings.specs.TraceLists.{TraceLists}
 use Rattle.linkage.specs.declared.row.Row.{Row}
 use Rattle.linkage.specs.Answers.{IsLatest}
 use Rattle.linkage.specs.Checking.{IsRow}
-use Rattle.linkage.specs.Finding.{Holds, IsNearBelow, IsNear, IsIndex, IsLinkOrNone, look_up_looks}
-use Rattle.linkage.specs.Indexing.{AreListedBefore}
+use Rattle.linkage.specs.Finding.{Holds, IsNearBelow, IsNear, IsIndex, IsLinkOrNone, IsWindow, index_looks, window_looks}
+use Rattle.linkage.specs.Indexing.{AreListedBefore, AreListedFrom}
 use Rattle.linkage.specs.Links.{IsLink}
 use Rattle.linkage.specs.Sources.{Stored}
 use Rattle.linkage.specs.Spans.{HasPlace, place_of, places_before}
@@ -79,6 +80,40 @@ module _ (traces : TraceLists) (row : Row) (is : IsRow traces row) where
         omega (arith, is.few, count, listed.count, is.shape.count, is.shape.spans.whole, e);
   }
 
+-- the sorted triples of the writes below a bound are their index
+pub window_from : (row : Row) (cell bound width first : ℕ) (triples index : List Triple) → first ≡ bound - width → AreListedFrom row cell first (bound + 1) triples → HaveSameMembers triples index → length index ≡ length triples → IsWindow row cell bound width index
+window_from row cell bound width first triples index start listed members count = record {
+  exact = λ number value. (
+    λ held. (members (cell, value, number)).0 ((listed.exact number value).0 (omega (arith, start, held.1), omega (arith, held.0), held.2)),
+    λ contained. let h = (listed.exact number value).1 ((members (cell, value, number)).1 contained) in (omega (arith, h.1), omega (arith, start, h.0), h.2),
+  );
+  few = omega (arith, start, count, listed.count);
+}
+
+-- what the index of the writes below a bound tells of a read
+pub near_from_window : (row : Row) (cell value bound width : ℕ) (index : List Triple) (found : Option ℕ) → IsWindow row cell bound width index → IsLatest index cell value bound found → IsNear row cell value bound found
+near_from_window row cell value bound width index None is latest = tt
+near_from_window row cell value bound width index (Some number) is latest =
+    let h = (is.exact number value).1 latest.listed in (
+      h.0,
+      h.2,
+      λ other within above holds. (
+          let most = latest.greatest other within ((is.exact other value).0 (within, omega (arith, above, h.1), holds)) in
+          omega (arith, above, most)),
+    )
+
+pub link_from_window : (traces : TraceLists) (row : Row) → IsRow traces row → (cell value bound width : ℕ) (index : List Triple) (found : Option ℕ) → cell < length traces.starts → bound ≤ slice_index row.spans.greatest.items cell → IsWindow row cell bound width index → IsLatest index cell value bound found → IfSome found (IsLink traces cell value bound)
+link_from_window traces row is cell value bound width index None own most window latest = tt
+link_from_window traces row is cell value bound width index (Some number) own most window latest = near_link traces row is cell value bound number own most (near_from_window row cell value bound width index (Some number) window latest)
+
+-- halving so few members takes few looks
+pub few_window_looks : (looks count width : ℕ) → width ≤ 1024 → count ≤ width + 1 → 2 ^ looks ≤ 2 * count + 1 → looks ≤ window_looks
+few_window_looks looks count width narrow few halved =
+    elim (cases_lt window_looks looks) [
+      | inl more ↦ absurd (let large : 2 ^ 12 ≤ 2 ^ looks = pow_mono {i = 12} {j = looks} (omega arith) in omega (arith, large))
+      | inr under ↦ under
+    ]
+
 -- what the index tells of a read
 pub link_from_index : (traces : TraceLists) (index : List Triple) (cell value bound : ℕ) (found : Option ℕ) → IsIndex traces index → IsLatest index cell value bound found → IsLinkOrNone traces cell value bound found
 link_from_index traces index cell value bound None is latest = λ number within stored. latest number within ((is.exact cell number value).0 stored)
@@ -89,9 +124,9 @@ link_from_index traces index cell value bound (Some number) is latest = record {
 }
 
 -- halving so few members takes few looks
-pub few_looks : (looks count : ℕ) → count ≤ fuel_limit * thread_limit + cell_limit → 2 ^ looks ≤ 2 * count + 1 → looks ≤ look_up_looks
+pub few_looks : (looks count : ℕ) → count ≤ fuel_limit * thread_limit + cell_limit → 2 ^ looks ≤ 2 * count + 1 → looks ≤ index_looks
 few_looks looks count few halved =
-    elim (cases_lt look_up_looks looks) [
+    elim (cases_lt index_looks looks) [
       | inl more ↦ absurd (let large : 2 ^ 25 ≤ 2 ^ looks = pow_mono {i = 25} {j = looks} (omega arith) in omega (arith, large))
       | inr under ↦ under
     ]

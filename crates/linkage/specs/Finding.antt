@@ -29,9 +29,22 @@ pub record IsIndex (traces : TraceLists) (index : List Triple) : Type 0 where
   pub exact : (cell number value : ℕ) → Stored traces cell number value ↔ Contains index (cell, value, number)
   pub few : length index ≤ fuel_limit * thread_limit + cell_limit
 
+-- the index has the value and number of each write of the cell that is at most so much below the bound, and of no other write of it
+pub record IsWindow (row : Row) (cell bound width : ℕ) (index : List Triple) : Type 0 where
+  pub exact : (number value : ℕ) → ((number ≤ bound) × (bound ≤ number + width) × Holds row cell number value) ↔ Contains index (cell, value, number)
+  pub few : length index ≤ width + 1
+
 -- how many looks at the index find a write in it at most, since twice the most writes, and one, is below 2 to the power of 25
+abbrev pub index_looks : ℕ
+index_looks = 24
+
+-- the same of an index of the writes below a bound, since twice the most of them, and one, is below 2 to the power of 12
+abbrev pub window_looks : ℕ
+window_looks = 11
+
+-- how many looks find the write of a read at most
 abbrev pub look_up_looks : ℕ
-look_up_looks = 24
+look_up_looks = 2 * window_looks + index_looks
 
 -- the row of all writes, and the index, if it is there
 pub record IsFinder (traces : TraceLists) (finder : Finder) : Type 0 where

@@ -88,6 +88,6 @@ pub fn link<L: Ledger>(
     let tops = tops_of(alloc, traces, steps)?;
     let row = row_of(alloc, traces, tops.writes, steps)?;
     check_turns(alloc, traces, tops.entries, steps)?;
-    let mut finder = Finder { row, index: None };
+    let mut finder = Finder::new(row);
     link_all(alloc, traces, &mut finder, steps)
 }

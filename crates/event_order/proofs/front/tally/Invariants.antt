@@ -1,9 +1,12 @@
-use Rattle.std.proofs.Common.{◌≡◌}
-use Rattle.event_order.specs.Fronts.{awaited_of, none_done}
+use Rattle.std.proofs.Common.{◌≡◌, ◌-◌, length}
+use Rattle.event_order.specs.Fronts.{tallied}
 use Rattle.event_order.specs.Sums.{upto}
 use Rattle.event_order.specs.Tables.{counted, rows_of}
 use Rattle.event_order.specs.declared.slot.Slot.{Slot}
 use Rattle.event_order.proofs.front.tally.Given as goal
 
-abbrev pub invariant-loop-thread : goal.invariant-loop-thread
-invariant-loop-thread l = (slot : Slot) → counted (rows_of l.table.rows.items) slot ≡ upto (awaited_of l.deeds none_done slot) l.thread
+abbrev pub invariant-loop-from : goal.invariant-loop-from
+invariant-loop-from l = (slot : Slot) → counted (rows_of l.table.rows.items) slot ≡ upto (tallied l.deeds l.from slot) (length l.deeds)
+
+abbrev pub decreases-loop-from : goal.decreases-loop-from
+decreases-loop-from l = l.longest - l.from
