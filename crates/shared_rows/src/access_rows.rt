@@ -19,9 +19,9 @@ fn a_read_sees_what_its_pass_has_written(rt: HostRuntime) -> Result<(), Fail> {
     }
     first.gather(&rt, &hall, a);
     let closed = hall.close(first);
-    assert_eq!(rt; (closed.value(0), closed.number(0)), (1, 0));
-    assert_eq!(rt; (closed.value(1), closed.number(1)), (2000, 40));
-    assert_eq!(rt; (closed.value(2), closed.number(2)), (3, 0));
+    assert_eq!(rt; (closed.value(&rt, 0), closed.number(&rt, 0)), (1, 0));
+    assert_eq!(rt; (closed.value(&rt, 1), closed.number(&rt, 1)), (2000, 40));
+    assert_eq!(rt; (closed.value(&rt, 2), closed.number(&rt, 2)), (3, 0));
     Ok(())
 }
 
@@ -65,7 +65,7 @@ fn an_update_falls_between_two_reads(rt: HostRuntime) -> Result<(), Fail> {
     first.gather(&rt, &hall, b);
     let closed = hall.close(first);
     assert_eq!(rt; closed.drawn(), 2);
-    assert_eq!(rt; (closed.value(0), closed.number(0)), (9, 10));
+    assert_eq!(rt; (closed.value(&rt, 0), closed.number(&rt, 0)), (9, 10));
     Ok(())
 }
 
@@ -83,7 +83,7 @@ fn a_read_stands_around_an_update(rt: HostRuntime) -> Result<(), Fail> {
     assert_eq!(rt; a.read(&rt, &hall, 0), (7, 1));
     first.gather(&rt, &hall, a);
     first.gather(&rt, &hall, b);
-    assert_eq!(rt; hall.close(first).number(0), 2);
+    assert_eq!(rt; hall.close(first).number(&rt, 0), 2);
     Ok(())
 }
 
@@ -110,6 +110,6 @@ fn a_pass_split_off_has_seen_as_much(rt: HostRuntime) -> Result<(), Fail> {
     first.gather(&rt, &hall, writer);
     let closed = hall.close(first);
     assert_eq!(rt; closed.drawn(), 21);
-    assert_eq!(rt; (closed.value(0), closed.number(0)), (60, 20));
+    assert_eq!(rt; (closed.value(&rt, 0), closed.number(&rt, 0)), (60, 20));
     Ok(())
 }

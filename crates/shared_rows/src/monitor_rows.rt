@@ -83,6 +83,6 @@ fn monitors_are_found_held(rt: HostRuntime) -> Result<(), Fail> {
     first.gather(&rt, &hall, a);
     let closed = hall.close(first);
     assert_eq!(rt; closed.drawn(), 3);
-    assert_eq!(rt; (closed.value(0), closed.number(0)), (2, 2));
+    assert_eq!(rt; (closed.value(&rt, 0), closed.number(&rt, 0)), (2, 2));
     Ok(())
 }

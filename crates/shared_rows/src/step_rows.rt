@@ -22,8 +22,8 @@ fn two_passes_take_turns(rt: HostRuntime) -> Result<(), Fail> {
     a.gather(&rt, &hall, c);
     let closed = hall.close(a);
     assert_eq!(rt; closed.drawn(), 2);
-    assert_eq!(rt; closed.value(0), 5);
-    assert_eq!(rt; closed.number(0), 4);
+    assert_eq!(rt; closed.value(&rt, 0), 5);
+    assert_eq!(rt; closed.number(&rt, 0), 4);
     Ok(())
 }
 
@@ -45,8 +45,8 @@ fn a_read_meets_a_write_that_is_half_done(rt: HostRuntime) -> Result<(), Fail> {
     first.gather(&rt, &hall, b);
     let closed = hall.close(first);
     assert_eq!(rt; closed.drawn(), 2);
-    assert_eq!(rt; closed.value(0), 7);
-    assert_eq!(rt; closed.number(0), 2);
+    assert_eq!(rt; closed.value(&rt, 0), 7);
+    assert_eq!(rt; closed.number(&rt, 0), 2);
     Ok(())
 }
 
@@ -86,7 +86,7 @@ fn a_claim_fails_where_another_came_first(rt: HostRuntime) -> Result<(), Fail> {
     first.gather(&rt, &hall, a);
     let closed = hall.close(first);
     assert_eq!(rt; closed.drawn(), 2);
-    assert_eq!(rt; (closed.value(0), closed.number(0)), (10, 2));
-    assert_eq!(rt; (closed.value(1), closed.number(1)), (6, 6));
+    assert_eq!(rt; (closed.value(&rt, 0), closed.number(&rt, 0)), (10, 2));
+    assert_eq!(rt; (closed.value(&rt, 1), closed.number(&rt, 1)), (6, 6));
     Ok(())
 }

@@ -60,8 +60,8 @@ fn two_passes_write_in_two_threads(rt: HostRuntime) -> Result<(), Fail> {
         assert!(rt; b.1 < 2 && c.1 < 2 && b.1 != c.1);
         let closed = hall.close(first);
         assert_eq!(rt; closed.drawn(), 2);
-        assert_eq!(rt; closed.value(0), 5);
-        assert_eq!(rt; closed.number(0), 4);
+        assert_eq!(rt; closed.value(&rt, 0), 5);
+        assert_eq!(rt; closed.number(&rt, 0), 4);
     }
     Ok(())
 }
@@ -165,12 +165,21 @@ fn sixteen_passes_go_round_again_and_again(rt: HostRuntime) -> Result<(), Fail> 
         let closed = hall.close(first);
         assert_eq!(rt; closed.drawn(), 16, "in round {round}");
         // Of reads and writes without a monitor some are lost, and the last is of a value that was read.
-        assert_eq!(rt; closed.number(0), 2 * made);
-        assert!(rt; closed.value(0) > 1 && closed.value(0) <= made + 1);
-        assert_eq!(rt; (closed.value(1), closed.number(1)), (made + 1, 2 * made));
-        assert_eq!(rt; (closed.value(2), closed.number(2)), (made, 2 * made));
-        assert_eq!(rt; (closed.value(3), closed.number(3)), (2 * made, 2 * made));
-        assert_eq!(rt; (closed.value(4), closed.number(4)), (8, 0));
+        assert_eq!(rt; closed.number(&rt, 0), 2 * made);
+        assert!(rt; closed.value(&rt, 0) > 1 && closed.value(&rt, 0) <= made + 1);
+        assert_eq!(rt;
+            (closed.value(&rt, 1), closed.number(&rt, 1)),
+            (made + 1, 2 * made)
+        );
+        assert_eq!(rt;
+            (closed.value(&rt, 2), closed.number(&rt, 2)),
+            (made, 2 * made)
+        );
+        assert_eq!(rt;
+            (closed.value(&rt, 3), closed.number(&rt, 3)),
+            (2 * made, 2 * made)
+        );
+        assert_eq!(rt; (closed.value(&rt, 4), closed.number(&rt, 4)), (8, 0));
     }
     Ok(())
 }

@@ -1,6 +1,7 @@
 //! A pass beside what is known of it.
 ghost use Rattle.std.specs.Prelude.{◌≡◌, ◌+◌, ◌≤◌, length, true, None, IfOk};
 ghost use Rattle.interleavings.specs.AtomicStep.{one_more as one_more_look};
+ghost use Rattle.shared_rule.specs.Closing.{HasCells};
 ghost use Rattle.shared_rule.specs.Passes.{IsPassOf, IsReady, monitors_in, starts_in, view_of};
 ghost use Rattle.shared_rows.specs.Standing.{has_name, is_held};
 
@@ -20,6 +21,14 @@ pub(crate) struct Hall {
     monitors: u32,
     ghost cells_are: { cells ≡ length (starts_in shared) },
     ghost monitors_are: { monitors ≡ monitors_in shared },
+}
+
+/// The shared words as they were left, and how many cells they have.
+#[derive(Drop)]
+pub(crate) struct LastWords {
+    closed: Closed,
+    cells: u32,
+    ghost cells_are: { HasCells closed cells },
 }
 
 /// A pass, and what its calls have told so far of what it stands at. A call that it may not make ends the test.
@@ -94,10 +103,30 @@ impl Hall {
         Ok((hall, first))
     }
 
-    pub(crate) fn close(self, walker: Walker) -> Closed
+    pub(crate) fn close(self, walker: Walker) -> LastWords
         requires { IsPassOf self.shared walker.pass }
     {
-        self.shared.close(walker.pass)
+        let Hall { shared, cells, .. } = self;
+        LastWords {
+            closed: shared.close(walker.pass),
+            cells,
+        }
+    }
+}
+
+impl LastWords {
+    pub(crate) fn drawn(&self) -> u64 {
+        self.closed.drawn()
+    }
+
+    pub(crate) fn value<R: Abort>(&self, rt: &R, cell: u32) -> u64 {
+        assert!(rt; cell < self.cells);
+        self.closed.value(cell)
+    }
+
+    pub(crate) fn number<R: Abort>(&self, rt: &R, cell: u32) -> u64 {
+        assert!(rt; cell < self.cells);
+        self.closed.number(cell)
     }
 }
 
