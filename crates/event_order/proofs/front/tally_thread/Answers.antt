@@ -1,8 +1,5 @@
-use Rattle.std.proofs.Common.{◌≡◌, arith, ap}
-use Rattle.std.specs.Prelude.{min}
-use Rattle.event_order.specs.Deeds.{size}
+use Rattle.std.proofs.Common.{ap, arith}
 use Rattle.event_order.specs.Fronts.{awaited, none_done}
-use Rattle.event_order.specs.Sums.{upto}
 use Rattle.event_order.specs.Tables.{is_given}
 use Rattle.event_order.proofs.Waiting.{awaited_few, awaited_left, upto_more}
 use Rattle.event_order.proofs.front.tally_thread.Goals as goal

@@ -1,4 +1,4 @@
-use Rattle.std.proofs.Common.{◌≡◌, ℕ, ◌<◌, ◌≤◌, inl, inr, ap, arith}
+use Rattle.std.proofs.Common.{◌≡◌, inl, inr, ap, arith}
 use Rattle.std.proofs.lemmas.Bool.{cases_eq, cases_lt}
 use Rattle.event_order.specs.Deeds.{size}
 use Rattle.event_order.proofs.Waiting.{thread_there}
