@@ -29,7 +29,8 @@ pub struct Rerunning {
     pub traces: Traces,
 }
 
-/// Runs the threads of a bundle's program again, each by its log. The bytes are let go, since what follows wants much memory.
+/// Runs the threads of a bundle's program again, each by its log. The bytes are let go once they are decoded, and the logs at
+/// the end, since what follows wants much memory.
 pub fn rerun_bundle(alloc: Global, bytes: List<u8>) -> Result<Rerunning, Refusal>
     requires { length bytes.items ≤ INPUT_LIMIT }
     ensures rerun { IfOk result (λ rerun. IsRerun bytes.items rerun.program rerun.fuel rerun.traces) }
@@ -39,6 +40,7 @@ pub fn rerun_bundle(alloc: Global, bytes: List<u8>) -> Result<Rerunning, Refusal
 {
     let all = bytes.as_slice();
     let bundle = decode(alloc, all)?;
+    drop(bytes);
     let text = bundle.text.as_slice();
     let program = accept(alloc, text)?;
     let rerun = rerun(alloc, &program, bundle.fuel, &bundle.logs)?;
