@@ -67,7 +67,7 @@ fn two_passes_write_in_two_threads(rt: HostRuntime) -> Result<(), Fail> {
 }
 
 // How often each thread goes round.
-const TURNS: u32 = 120;
+const TURNS: u32 = 1500;
 
 // Enters a monitor, once it is free.
 fn enter<R: Wait + Abort>(rt: &R, hall: &Hall, walker: &mut Walker, mon: u32) -> u32
