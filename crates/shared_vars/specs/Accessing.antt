@@ -24,6 +24,12 @@ pub record Reads (cell : ℕ) (before : View) (value bound : ℕ) (now : View) :
   pub odd : AreOdd mets
   pub view : now ≡ view_after by.NumberLoad cell 0 (after_loads cell (view_after by.ValueLoad cell 0 before value) mets) (2 * bound)
 
+-- the number is loaded until it is even, the value having been loaded before
+pub record Waits (cell : ℕ) (before : View) (bound : ℕ) (now : View) : Type 0 where
+  pub mets : List ℕ
+  pub odd : AreOdd mets
+  pub view : now ≡ view_after by.NumberLoad cell 0 (after_loads cell before mets) (2 * bound)
+
 -- a write: a number is claimed, the value is put, and the number is completed
 pub record Writes (cell value : ℕ) (before : View) (number : ℕ) (now : View) : Type 0 where
   pub claimed : View

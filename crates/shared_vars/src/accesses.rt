@@ -1,10 +1,11 @@
 //! Whole reads, writes and updates.
 ghost use Rattle.std.specs.Prelude.{◌≡◌, ◌<◌, ◌≤◌, ◌^◌, length};
 ghost use Rattle.stride_isa.specs.Changes.{applied};
+ghost use Rattle.interleavings.specs.AtomicStep.{HasLoaded};
 ghost use Rattle.interleavings.specs.History.{greatest_seen};
 ghost use Rattle.interleavings.specs.declared.event.Event.TheVariants as events;
 ghost use Rattle.shared_rule.specs.Passes.{IsPassOf, IsReady, HasFinished, starts_in, view_of};
-ghost use Rattle.shared_vars.specs.Accessing.{Reads, Writes, Updates};
+ghost use Rattle.shared_vars.specs.Accessing.{Reads, Waits, Writes, Updates};
 
 use crate::steps::{complete, fetch, load_number, load_value, store_value};
 use crossbeam_utils::Backoff;
@@ -26,11 +27,28 @@ pub fn read<R: Wait>(rt: &R, shared: &Shared, pass: &mut Pass, cell: u32) -> (u6
     ensures bound { greatest_seen cell (view_of pass.old).seen ≤ result.1 }
 {
     let value = load_value(shared, pass, cell);
+    match load_number(shared, pass, cell) {
+        Some(bound) => (value, bound),
+        None => (value, wait_for_bound(rt, shared, pass, cell)),
+    }
+}
+
+// Loads the number of a cell whose value the pass has loaded until it is even. A writer is under way, so it has to go on first.
+#[cold]
+#[inline(never)]
+fn wait_for_bound<R: Wait>(rt: &R, shared: &Shared, pass: &mut Pass, cell: u32) -> u32
+    requires pass { IsPassOf shared.now pass.old }
+    requires cell { cell < length (starts_in shared.now) }
+    requires loaded { HasLoaded cell (view_of pass.old).activity.phase }
+    ensures pass { IsPassOf shared.now pass.new }
+    ensures loads { Waits cell (view_of pass.old) result (view_of pass.new) }
+    ensures bound { greatest_seen cell (view_of pass.old).seen ≤ result }
+{
     let backoff = Backoff::new();
     for _ in rt.forever() {
         match load_number(shared, pass, cell) {
-            Some(bound) => return (value, bound),
-            None => snooze(&backoff),
+            Some(bound) => return bound,
+            None => backoff.snooze(),
         }
     }
     unreachable!()
@@ -74,11 +92,4 @@ pub fn update<R: Wait>(
     store_value(shared, pass, cell, change.applied(old));
     complete(shared, pass, cell, below);
     (old, below + 1)
-}
-
-// A writer is under way, so it has to go on first.
-#[cold]
-#[inline(never)]
-fn snooze(backoff: &Backoff) {
-    backoff.snooze();
 }

@@ -1,12 +1,13 @@
 use Rattle.shared_rule.specs.Passes.{view_of}
-use Rattle.shared_vars.proofs.Loading.{loading_still}
+use Rattle.shared_vars.proofs.Loading.{read_later}
 use Rattle.shared_vars.proofs.accesses.read.Goals as goal
 
-pub loop-preserved : goal.loop-preserved
-loop-preserved g c =
-    let load = c.in-None-load_number.ensures.step in
-    record {
-      iterator = (tt, tt);
-      pass = c.load_number.ensures.pass;
-      loading = loading_still c.args.cell c.load_value-value.result load.0 (view_of c.args.pass.now) (view_of c.loop.pass) (view_of c.load_number.new.pass) c.loop.invariant.loading load.1 load.2;
-    }
+pub returns-in-None-clause-steps : goal.returns-in-None-clause-steps
+returns-in-None-clause-steps g c =
+    let load = c.in-None.ensures.step in
+    (read_later c.args.cell c.load_value-value.result c.wait_for_bound.result load.0 (view_of c.args.pass.now) (view_of c.load_value-value.new.pass) (view_of c.wait_for_bound.new.pass) c.load_value-value.ensures.step (view_of c.load_number.new.pass) load.1.view load.2 c.wait_for_bound.ensures.loads).0
+
+pub returns-in-None-clause-event : goal.returns-in-None-clause-event
+returns-in-None-clause-event g c =
+    let load = c.in-None.ensures.step in
+    (read_later c.args.cell c.load_value-value.result c.wait_for_bound.result load.0 (view_of c.args.pass.now) (view_of c.load_value-value.new.pass) (view_of c.wait_for_bound.new.pass) c.load_value-value.ensures.step (view_of c.load_number.new.pass) load.1.view load.2 c.wait_for_bound.ensures.loads).1

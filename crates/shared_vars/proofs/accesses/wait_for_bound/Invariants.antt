@@ -1,10 +1,10 @@
 use Rattle.shared_rule.specs.Passes.{IsPassOf, view_of}
-use Rattle.shared_vars.proofs.Loading.{IsLoading}
-use Rattle.shared_vars.proofs.accesses.read.Given as goal
+use Rattle.shared_vars.proofs.Loading.{IsWaiting}
+use Rattle.shared_vars.proofs.accesses.wait_for_bound.Given as goal
 
 abbrev pub invariant-loop : goal.invariant-loop
 invariant-loop g l = record {
   iterator : (goal.iterator-loop g).can_next l.iterator' × (goal.iterator-loop g).is_finite l.iterator';
   pass : IsPassOf l.shared l.pass;
-  loading : IsLoading l.cell l.value (view_of l.fn.pass) (view_of l.pass);
+  waiting : IsWaiting l.cell (view_of l.fn.pass) (view_of l.pass);
 }
