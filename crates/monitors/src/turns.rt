@@ -3,12 +3,12 @@ ghost use Rattle.std.specs.Prelude.{◌≡◌, ℕ, ◌<◌, ◌^◌, Some, IfSo
 ghost use Rattle.interleavings.specs.declared.activity.Phase.TheVariants.{Idle, Looked};
 ghost use Rattle.interleavings.specs.declared.kind.Kind.TheVariants as by;
 ghost use Rattle.interleavings.specs.AtomicStep.{held_turn};
-ghost use Rattle.monitors.specs.Turns.{IsLookedAt, IsEntered};
+ghost use Rattle.monitors.specs.Turns.{IsEntered};
 ghost use Rattle.shared_rule.specs.Passes.{IsPassOf, IsReady, monitors_in, view_of};
-ghost use Rattle.shared_rule.specs.Plays.{Makes};
+ghost use Rattle.shared_rule.specs.Plays.{IsHalf, Makes};
 ghost use Rattle.shared_rule.specs.Views.{view_after};
 
-use shared_rule::{Pass, Shared, Word};
+use shared_rule::{Pass, Shared, Word, half_if_even};
 
 /// Looks whether a monitor is free: `Some(turn)` exactly where it is, after so many turns, and the row of odd looks is 0 then;
 /// `None` exactly where it is held, and the row is one longer, or one where it was of another monitor. One step, of the kind
@@ -19,15 +19,10 @@ pub fn look(shared: &Shared, pass: &mut Pass, mon: u32) -> Option<u32>
     requires monitor { mon < monitors_in shared.now }
     requires ready { IsReady (view_of pass.old) }
     ensures pass { IsPassOf shared.now pass.new }
-    ensures step { (met : ℕ) × Makes by.Look mon 0 (view_of pass.old) met (view_of pass.new) × IsLookedAt result met }
+    ensures step { (met : ℕ) × Makes by.Look mon 0 (view_of pass.old) met (view_of pass.new) × IsHalf result met }
     ensures small { IfSome result (λ turn. turn < 2 ^ 31) }
 {
-    let met = shared.load(pass, Word::Monitor(mon));
-    if met % 2 == 0 {
-        Some((met / 2) as u32)
-    } else {
-        None
-    }
+    half_if_even(shared.load(pass, Word::Monitor(mon)))
 }
 
 /// Enters a monitor that was seen free after so many turns: `Some(seen + 1)` exactly where it was still so; the pass then holds
@@ -39,6 +34,7 @@ pub fn try_enter(shared: &Shared, pass: &mut Pass, mon: u32, seen: u32) -> Optio
     requires seen { (view_of pass.old).activity.phase ≡ Looked mon seen }
     ensures pass { IsPassOf shared.now pass.new }
     ensures step { (met : ℕ) × Makes by.Enter mon 0 (view_of pass.old) met (view_of pass.new) × IsEntered result seen met }
+    ensures small { IfSome result (λ turn. turn < 2 ^ 31) }
 {
     let word = 2 * u64::from(seen);
     match shared.compare_exchange(pass, Word::Monitor(mon), word, word + 1) {

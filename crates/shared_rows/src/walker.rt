@@ -6,12 +6,14 @@ ghost use Rattle.shared_rule.specs.Passes.{IsPassOf, IsReady, monitors_in, start
 ghost use Rattle.shared_rows.specs.Standing.{has_name, is_held};
 
 use interleavings::{HeldTurn, OddLooks, Phase};
+use shared_rule::limits::{DRAW_LIMIT, EVENT_LIMIT};
 use shared_rule::{Closed, Pass, Shared};
 use std::alloc::Global;
 use std::process::Abort;
 use std::sync::Wait;
 use std::test::Fail;
 use stride_isa::Change;
+use stride_isa::limits::{CELL_LIMIT, MONITOR_LIMIT};
 
 /// Shared words, and how many cells and monitors they have.
 #[derive(Drop)]
@@ -84,7 +86,7 @@ impl Hall {
     ) -> Result<(Hall, Walker), Fail>
         ensures { IfOk result (λ made. IsPassOf made.0.shared made.1.pass) }
     {
-        assert!(rt; starts.len() <= 256 && monitors <= 64);
+        assert!(rt; starts.len() <= CELL_LIMIT as usize && monitors as usize <= MONITOR_LIMIT);
         let (shared, pass) = Shared::prepare(alloc, starts, monitors)?;
         let hall = Hall {
             shared,
@@ -97,7 +99,7 @@ impl Hall {
             named: false,
             finished: 0,
             held: None,
-            draws: 2048,
+            draws: DRAW_LIMIT,
             looks: None,
         };
         Ok((hall, first))
@@ -115,7 +117,7 @@ impl Hall {
 }
 
 impl LastWords {
-    pub(crate) fn drawn(&self) -> u64 {
+    pub(crate) fn drawn(&self) -> u32 {
         self.closed.drawn()
     }
 
@@ -140,7 +142,7 @@ impl Walker {
     fn is_ready(&self) -> bool
         ensures { result ≡ true → IsReady (view_of self.now.pass) }
     {
-        self.phase == Phase::Idle && self.named && self.finished < 1_000_000
+        self.phase == Phase::Idle && self.named && self.finished < EVENT_LIMIT
     }
 
     pub(crate) fn split<R: Abort>(&mut self, rt: &R, hall: &Hall) -> Walker

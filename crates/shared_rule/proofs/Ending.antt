@@ -341,3 +341,11 @@ module _ (starts : List ℕ) (facts : HistoriesKeep) (id : ℕ) (v : View) (star
         words = λ word within. is_told.words word within ∙ ap (λ (xs : List ℕ). get_or xs (index_of word) 0) words_are;
       } in
       (steps, subst (λ xs. IsOneHistory xs v.gathered closed steps) (sym starts_are) shown)
+
+-- no more names were drawn than can be
+pub few_names : (starts : List ℕ) (id : ℕ) (v : View) (words : List ℕ) (units : List (Unit {0})) → table.Final (table.Seen (Holds starts) id v) words units → get_or words 0 0 ≤ DRAW_LIMIT
+few_names starts id v words units final =
+    let holds = final.1.0 in
+    let all = holds.draws in
+    let drawn : get_or words 0 0 ≡ (after starts holds.steps).words Drawn = ap (λ (xs : List ℕ). get_or xs 0 0) (sym final.2) ∙ holds.words Drawn tt in
+    omega arith

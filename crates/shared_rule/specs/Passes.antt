@@ -35,7 +35,8 @@ IsWordOf shared (Value cell) = cell < length (starts_in shared)
 IsWordOf shared (Number cell) = cell < length (starts_in shared)
 IsWordOf shared (Monitor monitor) = monitor < monitors_in shared
 
--- nothing but their starting values is in the words, and the first pass has done nothing
+-- the table is of these starting values and so many monitors, and the first pass has done nothing; by the rule the words then
+-- hold the starting values and otherwise 0
 pub record IsPrepared (starts : List ℕ) (monitors : ℕ) (shared : Shared) (pass : Seat (Unit {0}) View) : Type 0 where
   pub starts_are : starts_in shared ≡ starts
   pub monitors_are : monitors_in shared ≡ monitors

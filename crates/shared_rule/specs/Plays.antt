@@ -1,8 +1,9 @@
 -- What one access tells its pass.
-use Rattle.std.specs.Prelude.{◌≡◌, ℕ, ◌/◌, ◌<◌, ◌≤◌, ◌^◌}
+use Rattle.std.specs.Prelude.{◌≡◌, ℕ, ◌+◌, ◌*◌, ◌/◌, ◌<◌, ◌≤◌, ◌^◌, false, Option, Some, None}
 use Rattle.atomic_table.specs.Table.{Step, Me}
 use Rattle.interleavings.specs.declared.kind.Kind.{Kind}
 use Rattle.interleavings.specs.declared.kind.Kind.TheVariants as by
+use Rattle.interleavings.specs.AtomicStep.{is_even}
 use Rattle.interleavings.specs.History.{greatest_seen}
 use Rattle.shared_rule.specs.declared.limits.TheConstants.{DRAW_LIMIT}
 use Rattle.shared_rule.specs.declared.view.View.{View}
@@ -10,11 +11,12 @@ use Rattle.shared_rule.specs.Accesses.{at_of, load_kind, store_kind, exchange_ki
 use Rattle.shared_rule.specs.Lines.{word_at}
 use Rattle.shared_rule.specs.Views.{view_after}
 
--- a number or a turn has 31 bits
+-- half of the word of a number or a monitor, and the number or turn after it, have 31 bits
 abbrev pub IsSmall : ℕ → Type 0
-IsSmall word = word / 2 < 2 ^ 31
+IsSmall word = word / 2 + 1 < 2 ^ 31
 
--- what is known of the word that a step of this kind met: a read's number is not below what the pass has seen of the cell
+-- what is known of the word that a step of this kind met: half of the number that a read loads is not below what the pass has
+-- seen of the cell
 abbrev pub Met : Kind → ℕ → View → ℕ → Type 0
 Met by.ValueLoad at v met = Unit {0}
 Met by.NumberLoad at v met = IsSmall met × (greatest_seen at v.seen ≤ met / 2)
@@ -27,6 +29,11 @@ Met by.Look at v met = IsSmall met
 Met by.Enter at v met = IsSmall met
 Met by.Leave at v met = IsSmall met
 Met by.Draw at v met = met < DRAW_LIMIT
+
+-- what a look at a number or a monitor answers: half of the word where it was even, and nothing where it was odd
+abbrev pub IsHalf : Option ℕ → ℕ → Type 0
+IsHalf (Some half) word = word ≡ 2 * half
+IsHalf None word = is_even word ≡ false
 
 -- the pass made exactly one step, of this kind at this cell or monitor, which stores this value where it stores one, and met
 -- this word

@@ -4,7 +4,7 @@ ghost use Rattle.interleavings.specs.AtomicStep.{Drawn, Value, Number};
 ghost use Rattle.shared_rule.specs.Closing.{last_word, HasCell};
 
 use crate::closed::Closed;
-use crate::lines::index_of;
+use crate::lines::{DRAWN_WORD, index_of};
 use crate::word::Word;
 
 impl Closed {
@@ -25,9 +25,9 @@ impl Closed {
     }
 
     /// How many names were drawn.
-    pub fn drawn(&self) -> u64
+    pub fn drawn(&self) -> u32
         ensures { result ≡ last_word self.now Drawn }
     {
-        self.words.word(0)
+        self.words.word(DRAWN_WORD) as u32
     }
 }

@@ -14,6 +14,9 @@ use stride_isa::limits::{CELL_LIMIT, MONITOR_LIMIT};
 /// begin at an address that 16 divides, so a cell's value and its number always lie in one line of the cache.
 pub(crate) const LINE_WORDS: usize = 16;
 
+/// The place of the count of names.
+pub(crate) const DRAWN_WORD: usize = 0;
+
 /// How many words there are for so many cells.
 fn width(cells: usize) -> usize
     requires { cells ≤ CELL_LIMIT }

@@ -10,7 +10,7 @@ ghost use Rattle.shared_rule.specs.Views.{view_after, halved, split_off, taken_i
 
 use crate::closed::{Closed, closed_of};
 use crate::facts::facts;
-use crate::lines::{index_of, opening_words};
+use crate::lines::{DRAWN_WORD, index_of, opening_words};
 use crate::rule::{Draws, Exchanges, Halves, Loads, Plan, Stores, TakesIn};
 use crate::shared::{Pass, Shared, shared_of};
 use crate::word::Word;
@@ -58,7 +58,7 @@ impl Shared {
         ensures step { Makes by.Draw 0 0 (view_of pass.old) result (view_of pass.new) }
     {
         facts();
-        self.table.shared.fetch_add::<Draws>(pass, 0, 1) as u32
+        self.table.shared.fetch_add::<Draws>(pass, DRAWN_WORD, 1) as u32
     }
 
     /// Loads a word, by the one kind of step that loads it in the pass's phase.
@@ -110,7 +110,8 @@ impl Shared {
         if met == old { Ok(met) } else { Err(met) }
     }
 
-    /// Takes in another pass that is at no shared instruction: what it gathered, and what it did itself, if it has a name.
+    /// Takes in another pass that is at no shared instruction: what it gathered, what it did itself, if it has a name, what it has
+    /// seen, and its draws.
     pub fn gather(&self, pass: &mut Pass, other: Pass)
         requires pass { IsPassOf self.now pass.old }
         requires nameless { (view_of pass.old).activity.name ≡ None }

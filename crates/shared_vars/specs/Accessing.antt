@@ -1,5 +1,5 @@
 -- Reads, writes and updates of a cell, as rows of atomic steps.
-use Rattle.std.specs.Prelude.{◌≡◌, ℕ, ◌+◌, ◌*◌, false, List, [], ◌∷◌, Option, Some, None}
+use Rattle.std.specs.Prelude.{◌≡◌, ℕ, ◌+◌, ◌*◌, false, List, [], ◌∷◌}
 use Rattle.stride_isa.specs.Changes.{applied}
 use Rattle.stride_isa.specs.declared.change.Change.{Change}
 use Rattle.interleavings.specs.declared.kind.Kind.TheVariants as by
@@ -46,8 +46,3 @@ pub record Updates (cell : ℕ) (change : Change) (before : View) (old number : 
   pub takes : Takes cell before below claimed
   pub next : number ≡ below + 1
   pub view : now ≡ view_after by.Complete cell 0 (view_after by.Put cell (applied change old) (view_after by.Fetch cell 0 claimed old) 0) 0
-
--- what the number load of a read answers: half of it where it was even, and nothing where it was odd
-abbrev pub IsBound : Option ℕ → ℕ → Type 0
-IsBound (Some bound) met = met ≡ 2 * bound
-IsBound None met = is_even met ≡ false

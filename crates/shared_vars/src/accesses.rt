@@ -25,6 +25,7 @@ pub fn read<R: Wait>(rt: &R, shared: &Shared, pass: &mut Pass, cell: u32) -> (u6
     ensures steps { Reads cell (view_of pass.old) result.0 result.1 (view_of pass.new) }
     ensures event { HasFinished (events.Read cell result.0 result.1) (view_of pass.old) (view_of pass.new) }
     ensures bound { greatest_seen cell (view_of pass.old).seen ≤ result.1 }
+    ensures small { result.1 < 2 ^ 31 }
 {
     let value = load_value(shared, pass, cell);
     match load_number(shared, pass, cell) {
@@ -43,6 +44,7 @@ fn wait_for_bound<R: Wait>(rt: &R, shared: &Shared, pass: &mut Pass, cell: u32) 
     ensures pass { IsPassOf shared.now pass.new }
     ensures loads { Waits cell (view_of pass.old) result (view_of pass.new) }
     ensures bound { greatest_seen cell (view_of pass.old).seen ≤ result }
+    ensures small { result < 2 ^ 31 }
 {
     let backoff = Backoff::new();
     for _ in rt.forever() {
@@ -54,7 +56,7 @@ fn wait_for_bound<R: Wait>(rt: &R, shared: &Shared, pass: &mut Pass, cell: u32) 
     unreachable!()
 }
 
-/// Writes a value into a cell, and answers the number of the write.
+/// Writes a value into a cell, and answers the number of the write. It waits for other writers.
 #[inline]
 pub fn write<R: Wait>(rt: &R, shared: &Shared, pass: &mut Pass, cell: u32, value: u64) -> u32
     requires pass { IsPassOf shared.now pass.old }
@@ -63,6 +65,7 @@ pub fn write<R: Wait>(rt: &R, shared: &Shared, pass: &mut Pass, cell: u32, value
     ensures pass { IsPassOf shared.now pass.new }
     ensures steps { Writes cell value (view_of pass.old) result (view_of pass.new) }
     ensures event { HasFinished (events.Write cell value result) (view_of pass.old) (view_of pass.new) }
+    ensures small { result < 2 ^ 31 }
 {
     let n = take(rt, shared, pass, cell);
     store_value(shared, pass, cell, value);
@@ -71,7 +74,7 @@ pub fn write<R: Wait>(rt: &R, shared: &Shared, pass: &mut Pass, cell: u32, value
 }
 
 /// Updates a cell: the value becomes what the change makes of the old one. It answers the old value and the number of the
-/// update.
+/// update. It waits for other writers.
 #[inline]
 pub fn update<R: Wait>(
     rt: &R,
@@ -86,6 +89,7 @@ pub fn update<R: Wait>(
     ensures pass { IsPassOf shared.now pass.new }
     ensures steps { Updates cell change (view_of pass.old) result.0 result.1 (view_of pass.new) }
     ensures event { HasFinished (events.Update cell result.0 (applied change result.0) result.1) (view_of pass.old) (view_of pass.new) }
+    ensures small { result.1 < 2 ^ 31 }
 {
     let below = take(rt, shared, pass, cell);
     let old = fetch(shared, pass, cell);

@@ -4,11 +4,10 @@ ghost use Rattle.interleavings.specs.declared.kind.Kind.TheVariants as by;
 ghost use Rattle.interleavings.specs.AtomicStep.{HasLoaded, HasMarked, CanStore, HasStored, number_in};
 ghost use Rattle.interleavings.specs.History.{greatest_seen};
 ghost use Rattle.shared_rule.specs.Passes.{IsPassOf, IsReady, starts_in, view_of};
-ghost use Rattle.shared_rule.specs.Plays.{Makes};
+ghost use Rattle.shared_rule.specs.Plays.{IsHalf, Makes};
 ghost use Rattle.shared_rule.specs.Views.{view_after};
-ghost use Rattle.shared_vars.specs.Accessing.{IsBound};
 
-use shared_rule::{Pass, Shared, Word};
+use shared_rule::{Pass, Shared, Word, half_if_even};
 
 /// Loads the value of a cell, to read it. One step, of the kind `ValueLoad`.
 #[inline]
@@ -30,15 +29,11 @@ pub fn load_number(shared: &Shared, pass: &mut Pass, cell: u32) -> Option<u32>
     requires cell { cell < length (starts_in shared.now) }
     requires loaded { HasLoaded cell (view_of pass.old).activity.phase }
     ensures pass { IsPassOf shared.now pass.new }
-    ensures step { (met : ℕ) × Makes by.NumberLoad cell 0 (view_of pass.old) met (view_of pass.new) × IsBound result met }
+    ensures step { (met : ℕ) × Makes by.NumberLoad cell 0 (view_of pass.old) met (view_of pass.new) × IsHalf result met }
     ensures bound { IfSome result (λ bound. greatest_seen cell (view_of pass.old).seen ≤ bound) }
+    ensures small { IfSome result (λ bound. bound < 2 ^ 31) }
 {
-    let met = shared.load(pass, Word::Number(cell));
-    if met % 2 == 0 {
-        Some((met / 2) as u32)
-    } else {
-        None
-    }
+    half_if_even(shared.load(pass, Word::Number(cell)))
 }
 
 /// Loads the value of a cell that the pass has claimed, to update it. One step, of the kind `Fetch`.

@@ -1,16 +1,11 @@
 -- How a writer comes to a number of its own.
-use Rattle.std.specs.Prelude.{◌≡◌, ◌≢◌, ℕ, ◌*◌, false, List, [], ◌∷◌, Option, Some, None}
+use Rattle.std.specs.Prelude.{◌≡◌, ◌≢◌, ℕ, ◌*◌, false, List, [], ◌∷◌}
 use Rattle.interleavings.specs.declared.activity.Phase.TheVariants.{Marked}
 use Rattle.interleavings.specs.declared.kind.Kind.TheVariants as by
 use Rattle.interleavings.specs.AtomicStep.{is_even}
 use Rattle.shared_rule.specs.declared.view.View.{View}
 use Rattle.shared_rule.specs.Passes.{IsSameBeside}
 use Rattle.shared_rule.specs.Views.{view_after}
-
--- what a look at a number answers: half of it where it was even, and nothing where it was odd
-abbrev pub IsSeen : Option ℕ → ℕ → Type 0
-IsSeen (Some n) met = met ≡ 2 * n
-IsSeen None met = is_even met ≡ false
 
 -- a try to claim that failed: the number was odd, or it was even and another word was met in its place
 pub data Try : Type 0 where

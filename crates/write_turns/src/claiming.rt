@@ -1,13 +1,13 @@
 //! Seeing the number of a cell, and claiming the next one.
-ghost use Rattle.std.specs.Prelude.{◌≡◌, ℕ, ◌*◌, ◌==◌, ◌<◌, ◌^◌, length, IfSome};
+ghost use Rattle.std.specs.Prelude.{◌≡◌, ℕ, ◌+◌, ◌*◌, ◌==◌, ◌<◌, ◌^◌, length, IfSome};
 ghost use Rattle.interleavings.specs.declared.activity.Phase.TheVariants.{Numbered};
 ghost use Rattle.interleavings.specs.declared.kind.Kind.TheVariants as by;
 ghost use Rattle.shared_rule.specs.Passes.{IsPassOf, IsReady, starts_in, view_of};
-ghost use Rattle.shared_rule.specs.Plays.{Makes};
-ghost use Rattle.write_turns.specs.Claiming.{IsSeen, Takes, HasClaimed};
+ghost use Rattle.shared_rule.specs.Plays.{IsHalf, Makes};
+ghost use Rattle.write_turns.specs.Claiming.{Takes, HasClaimed};
 
 use crossbeam_utils::Backoff;
-use shared_rule::{Pass, Shared, Word};
+use shared_rule::{Pass, Shared, Word, half_if_even};
 use std::sync::Wait;
 
 /// Looks at the number of a cell, to write: `Some(n)` exactly where it was `2 * n`, and `None` exactly where it was odd. One
@@ -18,15 +18,10 @@ pub fn see(shared: &Shared, pass: &mut Pass, cell: u32) -> Option<u32>
     requires cell { cell < length (starts_in shared.now) }
     requires ready { IsReady (view_of pass.old) }
     ensures pass { IsPassOf shared.now pass.new }
-    ensures step { (met : ℕ) × Makes by.SeeNumber cell 0 (view_of pass.old) met (view_of pass.new) × IsSeen result met }
-    ensures small { IfSome result (λ n. n < 2 ^ 31) }
+    ensures step { (met : ℕ) × Makes by.SeeNumber cell 0 (view_of pass.old) met (view_of pass.new) × IsHalf result met }
+    ensures small { IfSome result (λ n. n + 1 < 2 ^ 31) }
 {
-    let met = shared.load(pass, Word::Number(cell));
-    if met % 2 == 0 {
-        Some((met / 2) as u32)
-    } else {
-        None
-    }
+    half_if_even(shared.load(pass, Word::Number(cell)))
 }
 
 /// Claims the write after those that were seen: true exactly where the number was still twice that many. After false the pass is
@@ -54,7 +49,7 @@ pub fn take<R: Wait>(rt: &R, shared: &Shared, pass: &mut Pass, cell: u32) -> u32
     ensures pass { IsPassOf shared.now pass.new }
     ensures steps { Takes cell (view_of pass.old) result (view_of pass.new) }
     ensures claimed { HasClaimed cell result (view_of pass.old) (view_of pass.new) }
-    ensures small { result < 2 ^ 31 }
+    ensures small { result + 1 < 2 ^ 31 }
 {
     let backoff = Backoff::new();
     for _ in rt.forever() {
@@ -71,7 +66,7 @@ pub fn take<R: Wait>(rt: &R, shared: &Shared, pass: &mut Pass, cell: u32) -> u32
     unreachable!()
 }
 
-// Another writer came first, so the next try may do at once.
+// Another writer came first, so the next try may succeed at once.
 #[cold]
 #[inline(never)]
 fn spin(backoff: &Backoff) {

@@ -1,8 +1,8 @@
 //! How writers of a cell come to numbers, one after another.
 //!
-//! Owns: what a look at a number tells and which steps it takes to claim one (`Claiming`). The layer above may rely on this: a
-//! pass that has claimed a cell is alone there until it completes, since its claim made the number odd; and each call is exactly
-//! the atomic steps that its contract names.
+//! Owns: which steps it takes to claim a number (`Claiming`). The layer above may rely on this: each
+//! call is exactly the atomic steps that its contract names. That a pass which has claimed a cell is alone there until it
+//! completes is a law of histories (`histories::one_claimer`).
 #![tactic(auto)]
 
 mod claiming;
