@@ -23,11 +23,11 @@ use Rattle.interleavings.specs.EventStep.{after_event}
 use Rattle.interleavings.proofs.HeldFlags.{flags_after, FitsStop, IsAnsweredAs, stands_answered, settled-held}
 use Rattle.interleavings.proofs.StepPeople.{step_here, step_elsewhere}
 use Rattle.interleavings.proofs.OddNumbers.{Claims, odd_after}
+use Rattle.interleavings.specs.Walking.{turns_by}
 use Rattle.interleavings.proofs.Finishes.{IsFinished, step_finishes}
 use Rattle.interleavings.proofs.InPlace.{AreInPlace, IsInPlaceAfter, may_next, in_place_after, turn_at_exit}
 use Rattle.interleavings.proofs.Walked.{HasWalked, thread_after-walked}
 use Rattle.interleavings.proofs.NextSteps.{kind_at, step_at}
-use Rattle.interleavings.proofs.Walks.{turns_by}
 
 -- what a thread has done and is doing fits where it stands
 abbrev pub IsThreadInPlace : Setting → ℕ → Thread → Activity → Type 0

@@ -19,7 +19,7 @@ use Rattle.interleavings.specs.Walking.{IsMet, Walks}
 use Rattle.interleavings.proofs.HeldFlags.{FitsStop, HoldsAtExit, IsAnsweredAs, flags_after, none_held, settled-held, stands_answered}
 
 -- a thread that makes an event stands at a shared instruction, which sets its flags as the stop says
-flags_by_stop : (stop : Stop) (turns : ℕ → ℕ) (event : Event) (op : Op) (flags : List Bool) → IsMet stop turns event → IsAnsweredAs stop op flags → FitsStop stop op flags
+pub flags_by_stop : (stop : Stop) (turns : ℕ → ℕ) (event : Event) (op : Op) (flags : List Bool) → IsMet stop turns event → IsAnsweredAs stop op flags → FitsStop stop op flags
 flags_by_stop (stops.Read cell) turns event op flags met fits = fits
 flags_by_stop (stops.Write cell value) turns event op flags met fits = fits
 flags_by_stop (stops.Update cell change) turns event op flags met fits = fits
@@ -32,7 +32,7 @@ flags_by_stop (stops.Ended end) turns (events.Enter monitor turn) op flags met f
 flags_by_stop (stops.Ended end) turns (events.Exit monitor turn) op flags met fits = absurd cc
 
 -- a lowered flag is down
-lowered : (flags : List Bool) (monitor : ℕ) → holds (slice_set flags monitor false) monitor ≡ false
+pub lowered : (flags : List Bool) (monitor : ℕ) → holds (slice_set flags monitor false) monitor ≡ false
 lowered flags monitor = elim (cases_lt monitor (length flags)) [
   | inl h ↦ get_or-set_same flags monitor false false h
   | inr h ↦ get_or_past (slice_set flags monitor false) monitor false (rw length-set h)
@@ -97,7 +97,7 @@ ends_held stop turns flags (events.Exit left ended) met held monitor turn is =
 ends_held stop turns flags event met held monitor turn is = absurd cc
 
 -- the flags of a thread after an event
-flags-after_event : (p : Listing) (fuel t : ℕ) (turns : ℕ → ℕ) (event : Event) (s : Thread) → IsMet (stop_of p t s) turns event → (after_event p fuel t event s).held ≡ flags_after (stop_of p t s) s.held
+pub flags-after_event : (p : Listing) (fuel t : ℕ) (turns : ℕ → ℕ) (event : Event) (s : Thread) → IsMet (stop_of p t s) turns event → (after_event p fuel t event s).held ≡ flags_after (stop_of p t s) s.held
 flags-after_event p fuel t turns event s met =
     settled-held p fuel t (answered p fuel t (word_given event) s) ∙ (flags_by_stop (stop_of p t s) turns event (op_at p t s.pc) s.held met (stands_answered p t s)).flags_are
 

@@ -57,7 +57,7 @@ none_left (h ∷ held) monitor = without (h.mon == monitor) refl (none_left held
     without false e rest = ap (λ b. cond b (Some h.turn) (held_turn monitor (filter (λ h. not (h.mon == monitor)) held))) e ∙ rest
 
 -- the others are held for the turns that they were
-others_kept : (held : List HeldTurn) (monitor m : ℕ) → m ≢ monitor → held_turn m (filter (λ h. not (h.mon == monitor)) held) ≡ held_turn m held
+pub others_kept : (held : List HeldTurn) (monitor m : ℕ) → m ≢ monitor → held_turn m (filter (λ h. not (h.mon == monitor)) held) ≡ held_turn m held
 others_kept [] monitor m other = refl
 others_kept (h ∷ held) monitor m other = kept (h.mon == monitor) (λ e. ne_eqb h.mon m (λ same. other (sym same ∙ eqb-true h.mon monitor e))) (others_kept held monitor m other)
   where

@@ -27,9 +27,11 @@ pub mod Recorded
 pub mod Row
 pub mod Settling
 pub mod ShortLogs
+pub mod StandingBy
 pub mod StepPeople
 pub mod Strangers
 pub mod TraceLemmas
+pub mod Unstopped
 pub mod Walked
 pub mod Walks
 pub mod WalksFollowed

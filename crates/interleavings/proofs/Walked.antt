@@ -13,10 +13,10 @@ use Rattle.interleavings.specs.Recording.{Setting}
 use Rattle.interleavings.specs.Driving.{thread_after}
 use Rattle.interleavings.specs.Recording.{gives_up}
 use Rattle.interleavings.specs.Following.{no_turns}
-use Rattle.interleavings.specs.Walking.{is_exit, IsMet, Walks}
+use Rattle.interleavings.specs.Walking.{is_exit, IsMet, Walks, turns_by}
 use Rattle.interleavings.specs.EventStep.{after_event}
 use Rattle.interleavings.proofs.Finishes.{HasEntered, IsFinished}
-use Rattle.interleavings.proofs.Walks.{turns_by, turns_by-on, walks_on}
+use Rattle.interleavings.proofs.Walks.{turns_by-on, walks_on}
 
 -- the thread came to where it stands by these events, or gave up there, which it does at no exit; the turns that it holds
 -- are those of its last entries

@@ -8,27 +8,27 @@ use Rattle.stride_isa.specs.Listing.{Listing, op_at}
 use Rattle.sc_machine.specs.declared.end.End.{End}
 use Rattle.sc_machine.specs.declared.stop.Stop.{Stop}
 use Rattle.sc_machine.specs.declared.stop.Stop.TheVariants as stops
-use Rattle.sc_machine.specs.ThreadStep.{Thread, Row, row, now_unless, stop_in, stop_of}
+use Rattle.sc_machine.specs.ThreadStep.{Thread, Row, start_thread, settled, row, now_unless, stop_in, stop_of}
 use Rattle.sc_machine.specs.Schedule.{stopped}
 use Rattle.interleavings.specs.declared.event.Event.{Event}
 use Rattle.interleavings.specs.declared.event.Event.TheVariants as events
 use Rattle.interleavings.specs.declared.event.LogEntry.{LogEntry}
 use Rattle.interleavings.specs.declared.event.LogEntry.TheVariants as entries
 use Rattle.interleavings.specs.Events.{log_of}
-use Rattle.interleavings.specs.Walking.{is_exit, IsMet, Walks}
+use Rattle.interleavings.specs.Walking.{is_exit, IsMet, Walks, turns_by}
 use Rattle.interleavings.specs.EventStep.{after_event}
-use Rattle.interleavings.specs.Following.{Makes, Over, met_of, on_met, event_before, place_after, turns_after, follow_from}
+use Rattle.interleavings.specs.Laws.{ComesBy}
+use Rattle.interleavings.specs.Following.{Makes, no_turns, Over, met_of, on_met, event_before, place_after, turns_after, follow_from}
 use Rattle.interleavings.proofs.MachineLaws.{MachineLaws, IsAlive, after_event-alive, after_event-made}
-
--- the turns after these events
-abbrev pub turns_by : List Event → (ℕ → ℕ) → ℕ → ℕ
-turns_by [] turns = turns
-turns_by (event ∷ es) turns = turns_by es (turns_after event turns)
 
 -- one event more
 pub walks_on : (p : Listing) (fuel t : ℕ) (es : List Event) (turns : ℕ → ℕ) (s last : Thread) (event : Event) → Walks p fuel t es turns s last → IsMet (stop_of p t last) (turns_by es turns) event → Walks p fuel t (es ++ event ∷ []) turns s (after_event p fuel t event last)
 walks_on p fuel t [] turns s last event walks met = (subst (λ (x : Thread). IsMet (stop_of p t x) turns event) (sym walks) met, ap (after_event p fuel t event) walks)
 walks_on p fuel t (e ∷ es) turns s last event walks met = (walks.0, walks_on p fuel t es (turns_after e turns) (after_event p fuel t e s) last event walks.1 met)
+
+-- the same from the local start
+pub walks-go_on : (p : Listing) (fuel t : ℕ) (es : List Event) (last : Thread) (event : Event) → ComesBy p fuel t es last → IsMet (stop_of p t last) (turns_by es no_turns) event → ComesBy p fuel t (es ++ event ∷ []) (after_event p fuel t event last)
+walks-go_on p fuel t es last event walks met = walks_on p fuel t es no_turns (settled p fuel t start_thread) last event walks met
 
 -- the turns after one event more
 pub turns_by-on : (es : List Event) (turns : ℕ → ℕ) (event : Event) → turns_by (es ++ event ∷ []) turns ≡ turns_after event (turns_by es turns)

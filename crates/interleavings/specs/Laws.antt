@@ -1,17 +1,20 @@
 -- What holds of every recording, whatever the program and the order are, and of following.
-use Rattle.std.specs.Prelude.{◌≡◌, ◌≤◌, ◌<◌, ℕ, true, false, List, Some, None, Ok, length, option_and_then, slice_get}
+use Rattle.std.specs.Prelude.{◌≡◌, ◌≤◌, ◌<◌, ℕ, true, false, List, [], ◌∷◌, ◌++◌, Some, None, Ok, length, option_and_then, slice_get}
 use Rattle.std.specs.List.{AllByRecursion}
-use Rattle.stride_isa.specs.Listing.{Listing}
+use Rattle.stride_isa.specs.Listing.{Listing, op_at}
+use Rattle.stride_isa.specs.declared.op.Op.TheVariants as ops
 use Rattle.sc_machine.specs.declared.end.End.TheVariants.{Stopped}
+use Rattle.sc_machine.specs.declared.stop.Stop.TheVariants as stops
 use Rattle.sc_machine.specs.ThreadStep.{Thread, start_thread, settled, stop_of}
 use Rattle.sc_machine.specs.Schedule.{stopped}
 use Rattle.interleavings.specs.declared.event.Event.{Event}
 use Rattle.interleavings.specs.declared.event.LogEntry.{LogEntry}
 use Rattle.interleavings.specs.declared.rest.Rest.{Rest}
+use Rattle.interleavings.specs.AtomicStep.{held_turn}
 use Rattle.interleavings.specs.EventStep.{after_event}
 use Rattle.interleavings.specs.Events.{log_of, entered_by, left_by}
 use Rattle.interleavings.specs.Following.{Followed, no_turns, follow}
-use Rattle.interleavings.specs.Walking.{is_exit, Walks}
+use Rattle.interleavings.specs.Walking.{is_exit, IsMet, Walks, held_by, turns_by}
 use Rattle.interleavings.specs.Recording.{Setting, activity_of, gives_up, GaveUpAt, IsHistoryOf, IsFollowed, IsRecording}
 use Rattle.interleavings.specs.Driving.{advance_all, begun, settle_all, is_left, driven, whole_run, stranger}
 
@@ -62,6 +65,25 @@ FollowedWalks = (p : Listing) (fuel t : ℕ) (log : List LogEntry) (followed : F
 -- a thread that goes by some events is run again through them by their log
 abbrev pub WalksAreFollowed : Type 0
 WalksAreFollowed = (p : Listing) (fuel t : ℕ) (es : List Event) (last : Thread) → IsWalk p fuel t es last → follow p fuel t (log_of es) ≡ Ok (record { events = es; thread = stopped last })
+
+-- a thread comes from its local start to this state by these events
+abbrev pub ComesBy : Listing → ℕ → ℕ → List Event → Thread → Type 0
+ComesBy p fuel t es last = Walks p fuel t es no_turns (settled p fuel t start_thread) last
+
+-- a thread that has come by some events goes on by one that its instruction meets
+abbrev pub WalksGoOn : Type 0
+WalksGoOn = (p : Listing) (fuel t : ℕ) (es : List Event) (last : Thread) (event : Event) → ComesBy p fuel t es last → IsMet (stop_of p t last) (turns_by es no_turns) event → ComesBy p fuel t (es ++ event ∷ []) (after_event p fuel t event last)
+
+-- where a thread stands that has come by some events: at an exit it holds the monitor for the turn of its last entry into it;
+-- at an entry its instruction enters that monitor; and it was not stopped
+pub record StandsBy (p : Listing) (t : ℕ) (es : List Event) (last : Thread) : Type 0 where
+  pub holds : (monitor : ℕ) → stop_of p t last ≡ stops.Exit monitor → held_turn monitor (held_by es []) ≡ Some (turns_by es no_turns monitor)
+  pub enters : (monitor : ℕ) → stop_of p t last ≡ stops.Enter monitor → op_at p t last.pc ≡ ops.Enter monitor
+  pub goes_on : (pc : ℕ) → last.ended ≡ Some (Stopped pc) → ⊥
+
+-- each thread that has come by some events stands so
+abbrev pub WalksStand : Type 0
+WalksStand = (p : Listing) (fuel t : ℕ) (es : List Event) (last : Thread) → ComesBy p fuel t es last → StandsBy p t es last
 
 -- the event at a place of these ends a turn that an earlier one of them begins
 pub record EndsEnter (es : List Event) (place monitor turn : ℕ) : Type 0 where

@@ -1,6 +1,6 @@
 //! Laws of recordings and of following, over the definitions alone. Each is the contract of a function that does nothing,
 //! but for naming the laws of the machine on which its proof stands.
-ghost use Rattle.interleavings.specs.Laws.{EventMakesMore, DrivenIsAHistory, DrivenIsFollowed, DrivenIsShort, DrivenGivesUp, DrivenIsARecording, NothingIsLeft, FollowedUsesItsLog, FollowedWalks, WalksAreFollowed, ExitsEndEnters};
+ghost use Rattle.interleavings.specs.Laws.{EventMakesMore, DrivenIsAHistory, DrivenIsFollowed, DrivenIsShort, DrivenGivesUp, DrivenIsARecording, NothingIsLeft, FollowedUsesItsLog, FollowedWalks, WalksAreFollowed, WalksGoOn, WalksStand, ExitsEndEnters};
 
 use sc_machine::{fuel_is_left, settled_makes_no_less};
 
@@ -81,6 +81,17 @@ pub fn walks_are_followed()
     fuel_is_left();
     settled_makes_no_less();
 }
+
+/// A thread that goes from event to event goes on by each that its instruction meets.
+pub fn walks_go_on()
+    ensures { WalksGoOn }
+{}
+
+/// Where a thread stands that goes from event to event: it holds what it leaves, for the turn of its last entry, and it was not
+/// stopped.
+pub fn walks_stand()
+    ensures { WalksStand }
+{}
 
 /// Each exit of a thread that goes from event to event ends a turn that an earlier enter of the thread began.
 pub fn exits_end_enters()

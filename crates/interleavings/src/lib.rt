@@ -33,7 +33,7 @@ pub use kind::Kind;
 pub use laws::{
     driven_gives_up, driven_is_a_history, driven_is_a_recording, driven_is_followed,
     driven_is_short, event_makes_more, exits_end_enters, followed_uses_its_log, followed_walks,
-    nothing_is_left, walks_are_followed,
+    nothing_is_left, walks_are_followed, walks_go_on, walks_stand,
 };
 pub use limits::PATIENCE_LIMIT;
 pub use traces::{Place, Traces};

@@ -4,6 +4,7 @@ use Rattle.atomic_table.specs.declared.shared.Seat.{Seat}
 use Rattle.interleavings.specs.declared.activity.Phase.TheVariants.{Idle}
 use Rattle.interleavings.specs.declared.event.Event.{Event}
 use Rattle.interleavings.specs.AtomicStep.{SharedWord, Drawn, Value, Number, Monitor}
+use Rattle.interleavings.specs.Walking.{held_by_event}
 use Rattle.shared_rule.specs.declared.limits.TheConstants.{EVENT_LIMIT}
 use Rattle.shared_rule.specs.declared.shared.Shared.{Shared}
 use Rattle.shared_rule.specs.declared.view.View.{View}
@@ -56,13 +57,14 @@ pub record IsSameBeside (before now : View) : Type 0 where
   pub starts : now.starts ≡ before.starts
   pub draws : now.draws ≡ before.draws
 
--- the pass has finished this event; its name, its turns, its odd looks, what it gathered and its draws are as before
+-- the pass has finished this event, by which it holds the turns that it does; its name, its odd looks, what it gathered and its
+-- draws are as before
 pub record HasFinished (event : Event) (before now : View) : Type 0 where
   pub activity : now.activity ≡ record {
     name = before.activity.name;
     phase = Idle;
     events = before.activity.events ++ event ∷ [];
-    held = before.activity.held;
+    held = held_by_event event before.activity.held;
     looks = before.activity.looks;
   }
   pub same : IsSameBeside before now

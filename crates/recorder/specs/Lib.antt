@@ -1,0 +1,3 @@
+pub mod Accessing
+pub mod Sessions
+pub mod Threads

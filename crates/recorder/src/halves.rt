@@ -1,0 +1,87 @@
+//! The threads of a session, each on a thread of its own.
+ghost use Rattle.recorder.specs.Sessions.{CanRun, HasRunOne, Ran};
+
+use crate::gate::Gate;
+use crate::recording::record_thread;
+use crate::slot::Slot;
+use interleavings::LogEntry;
+use sc_machine::ThreadRun;
+use shared_rule::{Pass, Shared};
+use std::alloc::Global;
+use std::mem;
+use std::sync::Wait;
+use std::thread::{Threads, join_mut};
+use stride_base::List;
+use stride_isa::Checked;
+
+/// What all threads of a session have in common.
+pub(crate) struct Task<'s, G> {
+    pub alloc: Global,
+    pub shared: &'s Shared,
+    pub program: &'s Checked,
+    pub fuel: u32,
+    pub patience: u32,
+    pub gate: &'s G,
+}
+
+// Records the thread of this number into its slot, on a pass of its own.
+fn record_one<R: Wait, G: Gate>(
+    rt: &R,
+    task: &Task<'_, G>,
+    pass: &mut Pass,
+    slot: &mut Slot,
+    thread: u32,
+) {
+    let mut own = task.shared.split(pass);
+    task.shared.draw(&mut own);
+    // The lists grow on this thread's stack: in a row of slots the threads would write into each other's lines of memory.
+    let mut log = mem::replace(&mut slot.log, List::new(task.alloc));
+    let mut out = mem::replace(&mut slot.out, List::new(task.alloc));
+    slot.end = record_thread(
+        rt,
+        task.shared,
+        &mut own,
+        ThreadRun::start(task.program, thread, task.fuel),
+        thread,
+        task.patience,
+        task.gate,
+        &mut log,
+        &mut out,
+    );
+    slot.log = log;
+    slot.out = out;
+    task.shared.gather(pass, own);
+}
+
+/// Records as many threads as there are slots, numbered from `first` on, by halves, each half on a pass of its own.
+pub(crate) fn record_all<R: Threads + Wait + Sync, G: Gate>(
+    rt: &R,
+    task: &Task<'_, G>,
+    pass: &mut Pass,
+    slots: &mut [Slot],
+    first: u32,
+    depth: u32,
+) {
+    match slots {
+        [] => (),
+        [slot] => record_one(rt, task, pass, slot, first),
+        _ => {
+            let middle = slots.len() / 2;
+            let (left, right) = slots.split_at_mut(middle);
+            let mut other = task.shared.split(pass);
+            join_mut(
+                rt,
+                &mut || record_all(rt, task, pass, left, first, depth - 1),
+                &mut || record_all(
+                    rt,
+                    task,
+                    &mut other,
+                    right,
+                    first + middle as u32,
+                    depth - 1,
+                ),
+            );
+            task.shared.gather(pass, other);
+        }
+    }
+}

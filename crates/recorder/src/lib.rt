@@ -1,0 +1,19 @@
+//! Recording a program on threads that run beside each other.
+//!
+//! Owns: what was recorded of one thread (`Threads`) and of a session (`Sessions`). The layer above may rely on this: once a session
+//! has run its threads, what `finish` gives is a recording of the program, however the threads' steps fell; no call after `reserve`
+//! takes memory or refuses anything.
+#![tactic(auto)]
+
+mod accesses;
+mod gate;
+mod halves;
+mod recording;
+mod session;
+mod slot;
+mod taken;
+
+pub use gate::{Gate, OpenGate, Point};
+pub use recording::record_thread;
+pub use session::Session;
+pub use taken::Taken;

@@ -1,0 +1,90 @@
+//! Recording one thread.
+ghost use Rattle.std.specs.Prelude.{◌≡◌, ◌*◌, ◌≤◌, [], length};
+ghost use Rattle.stride_isa.specs.Listing.{starts_of};
+ghost use Rattle.sc_machine.specs.ThreadRun.{start_run};
+ghost use Rattle.interleavings.specs.declared.activity.Phase.TheVariants.{Idle};
+ghost use Rattle.recorder.specs.Threads.{IsFresh, IsThreadRecorded};
+ghost use Rattle.shared_rule.specs.Passes.{IsPassOf, IsSameBeside, monitors_in, starts_in, view_of};
+
+use crate::accesses::{enter, read, update, write};
+use crate::gate::{Gate, Way};
+use interleavings::{LogEntry, PATIENCE_LIMIT, walks_are_followed, walks_go_on, walks_stand};
+use monitors::leave;
+use sc_machine::limits::LINE_LIMIT;
+use sc_machine::{End, Stop, ThreadRun};
+use shared_rule::{Pass, Shared};
+use std::sync::Wait;
+use stride_base::List;
+use stride_isa::limits::MONITOR_LIMIT;
+
+/// Records a thread, from its start to its end, on the pass that it is lent. It refuses nothing and takes no memory. It ends as
+/// stopped exactly where it found a monitor held so often in a row as the patience says.
+pub fn record_thread<R: Wait, G: Gate>(
+    rt: &R,
+    shared: &Shared,
+    pass: &mut Pass,
+    run: ThreadRun<'_>,
+    thread: u32,
+    patience: u32,
+    gate: &G,
+    log: &mut List<LogEntry>,
+    out: &mut List<u8>,
+) -> End
+    requires pass { IsPassOf shared.now pass.old }
+    requires fresh { IsFresh (view_of pass.old) }
+    requires cells { starts_in shared.now ≡ starts_of run.program.decls }
+    requires monitors { monitors_in shared.now ≡ length run.program.monitors }
+    requires start { run ≡ start_run run.program thread run.fuel }
+    requires patient { 1 ≤ patience }
+    requires patience_limit { patience ≤ PATIENCE_LIMIT }
+    requires log { log.old.items ≡ [] }
+    requires log_room { run.fuel ≤ log.old.spare }
+    requires out { out.old.items ≡ [] }
+    requires out_room { LINE_LIMIT * run.fuel ≤ out.old.spare }
+    ensures pass { IsPassOf shared.now pass.new }
+    ensures idle { (view_of pass.new).activity.phase ≡ Idle }
+    ensures name { (view_of pass.new).activity.name ≡ (view_of pass.old).activity.name }
+    ensures same { IsSameBeside (view_of pass.old) (view_of pass.new) }
+    ensures recorded { IsThreadRecorded (record { program = run.program; fuel = run.fuel; patience = patience }) thread (view_of pass.new).activity log.new.items out.new.items result }
+    ensures short { length log.new.items ≤ run.fuel }
+{
+    walks_are_followed();
+    walks_go_on();
+    walks_stand();
+    let way = Way { gate, thread };
+    let mut run = run;
+    let mut turns = [0; MONITOR_LIMIT];
+    for _ in rt.forever() {
+        match run.local(out) {
+            Stop::Read { cell } => {
+                let (value, bound) = read(rt, shared, pass, &way, cell);
+                log.push_spare(LogEntry::Read { bound, value });
+                run.answer(Some(value));
+            }
+            Stop::Write { cell, value } => {
+                let number = write(rt, shared, pass, &way, cell, value);
+                log.push_spare(LogEntry::Write { number });
+                run.answer(None);
+            }
+            Stop::Update { cell, change } => {
+                let (old, number) = update(rt, shared, pass, &way, cell, change);
+                log.push_spare(LogEntry::Update { number, old });
+                run.answer(Some(old));
+            }
+            Stop::Enter { mon } => match enter(rt, shared, pass, &way, mon, patience) {
+                Some(turn) => {
+                    turns[mon as usize] = turn;
+                    log.push_spare(LogEntry::Enter { turn });
+                    run.answer(None);
+                }
+                None => return run.give_up(),
+            },
+            Stop::Exit { mon } => {
+                leave(shared, pass, mon, turns[mon as usize]);
+                run.answer(None);
+            }
+            Stop::Ended { end } => return end,
+        }
+    }
+    unreachable!()
+}

@@ -1,0 +1,81 @@
+//! Sessions: a program is recorded once, on threads of its own.
+ghost use Rattle.std.specs.Prelude.{◌≡◌, ◌≤◌, length, IfOk};
+ghost use Rattle.interleavings.specs.Recording.{IsRecording};
+ghost use Rattle.recorder.specs.Sessions.{AreShort, HasRun, IsReserved, recording_in, setting_in};
+
+use crate::gate::Gate;
+use crate::halves::{Task, record_all};
+use crate::slot::Slot;
+use crate::taken::Taken;
+use interleavings::{LogEntry, PATIENCE_LIMIT};
+use sc_machine::End;
+use sc_machine::limits::LINE_LIMIT;
+use shared_rule::{Pass, Shared};
+use std::alloc::Global;
+use std::sync::Wait;
+use std::thread::Threads;
+use stride_base::{List, NoMemory};
+use stride_isa::Checked;
+use stride_isa::limits::{FUEL_LIMIT, THREAD_LIMIT};
+
+/// The recording of a program: its shared words, and what is kept of each thread. All memory is taken by `reserve`.
+pub struct Session<'p> {
+    alloc: Global,
+    program: &'p Checked,
+    fuel: u32,
+    patience: u32,
+    shared: Shared,
+    pass: Pass,
+    slots: Vec<Slot>,
+    logs: List<List<LogEntry>>,
+    outputs: List<List<u8>>,
+    ends: List<End>,
+    last_values: List<u64>,
+}
+
+impl<'p> Session<'p> {
+    /// A session that has not run, with room for all that each thread can log and print.
+    pub fn reserve(
+        alloc: Global,
+        program: &'p Checked,
+        fuel: u32,
+        patience: u32,
+    ) -> Result<Session<'p>, NoMemory>
+        requires some { 1 ≤ fuel }
+        requires limit { fuel ≤ FUEL_LIMIT }
+        requires patient { 1 ≤ patience }
+        requires patience_limit { patience ≤ PATIENCE_LIMIT }
+        ensures setting { IfOk result (λ s. setting_in s ≡ record { program = program.now; fuel = fuel; patience = patience }) }
+        ensures reserved { IfOk result IsReserved }
+    {
+        let threads = program.thread_count();
+        todo!()
+    }
+
+    /// Runs all threads of the program beside each other, and records each. It refuses nothing and takes no memory.
+    pub fn run_threads<R: Threads + Wait + Sync, G: Gate>(&mut self, rt: &R, gate: &G)
+        requires { IsReserved self.old }
+        ensures setting { setting_in self.new ≡ setting_in self.old }
+        ensures run { HasRun self.new }
+    {
+        let task = Task {
+            alloc: self.alloc,
+            shared: &self.shared,
+            program: self.program,
+            fuel: self.fuel,
+            patience: self.patience,
+            gate,
+        };
+        record_all(rt, &task, &mut self.pass, self.slots.as_mut_slice(), 0, 4);
+    }
+
+    /// What was recorded. It refuses nothing and takes no memory.
+    pub fn finish(self) -> Taken
+        requires { HasRun self }
+        ensures recording { IsRecording (setting_in self) (recording_in result) }
+        ensures few { length result.logs.items ≤ THREAD_LIMIT }
+        ensures short { AreShort self.fuel result.logs.items }
+    {
+        todo!()
+    }
+}
