@@ -3,10 +3,13 @@ ghost use Rattle.std.specs.Prelude.{◌≡◌, ◌+◌, ◌≤◌, length, IfErr
 ghost use Rattle.stride_cli.specs.Gives.{Gives};
 ghost use Rattle.stride_cli.specs.Looks.{OnEarly, OnUnlinking, command_looks, greatest_looks};
 
+mod bundle;
 mod check;
 mod follow;
 mod infer;
+mod live;
 mod replay;
+mod run;
 mod show;
 mod sim;
 mod upgrade;
@@ -24,6 +27,8 @@ use std::sync::ledger::Ledger;
 use stride_base::limits::INPUT_LIMIT;
 use stride_base::{List, Steps};
 use upgrade::upgrade_bundle;
+
+pub use live::live_report_of;
 
 /// The report of a command on an input that was read.
 pub fn report_of<L: Ledger>(
