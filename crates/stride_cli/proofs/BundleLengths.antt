@@ -86,3 +86,6 @@ spelling_short bundle short threads few =
 pub lists_few : (logs : List (Listed LogEntry)) → AllByRecursion (λ log. length log.items ≤ fuel) logs → AllByRecursion (λ log. length log ≤ fuel) (lists_of logs)
 lists_few [] few = few
 lists_few (log ∷ logs) few = (few.0, lists_few logs few.1)
+
+pub lists_threads : (logs : List (Listed LogEntry)) → length logs ≤ thread_limit → length (lists_of logs) ≤ thread_limit
+lists_threads logs few = let same = length-map logs (λ (log : Listed LogEntry). log.items) in omega (arith, few, same)

@@ -11,7 +11,7 @@ use Rattle.interleavings.specs.Following.{Divergence, Followed, follow_all}
 use Rattle.interleavings.specs.Recording.{Recording, IsRecording}
 use Rattle.event_order.specs.Laws.{traces_of}
 use Rattle.history_laws.specs.Laws.{SchedulesReplayRecordings}
-use Rattle.history_laws.specs.RecordedRuns.{IsInferred}
+use Rattle.history_laws.specs.RecordedRuns.{IsScheduleOf}
 use Rattle.log_format.specs.Bundles.{Bundled}
 use Rattle.log_format.specs.Laws.{SpellingIsRead}
 use Rattle.log_format.specs.Reading.{reading, Refusal as FormatRefusal}
@@ -107,7 +107,7 @@ module _ (laws : Laws) (p : Listing) (valid : IsValid p) (bytes : List ℕ) (is 
   replayed_so : (answer : Answer) → AnswersInput Replay bytes answer → IsReplayed p is.recording is.recorded answer
   replayed_so answer answered =
       let found = by_bundle AnswersRun answer answered in
-      let inferring : IsInferred (setting_of p) is.recording found.0.schedule = record { all = followed; follows = is.recorded.followed.follows; links = found.0.links; whole = found.1.0; least = found.1.1 } in
+      let inferring : IsScheduleOf (setting_of p) is.recording found.0.schedule = record { all = followed; follows = is.recorded.followed.follows; links = found.0.links; whole = found.1.0; least = found.1.1 } in
       let replay = laws.replays (setting_of p) is.recording found.0.schedule valid some_fuel is.recorded inferring in
       let same = some_same (sym found.2.runs ∙ replay.1.runs) in
       record { schedule = found.0.schedule; inferred = inferring; machine = replay.0; replay = replay.1; shows = found.2.shows ∙ ap (λ m. done (replay_report found.0.schedule m)) same }

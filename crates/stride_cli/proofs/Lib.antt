@@ -13,6 +13,7 @@ pub mod Logless
 pub mod Members
 pub mod Names
 pub mod OneAnswer
+pub mod RecordedBundles
 pub mod RecordedRuns
 pub mod Recordings
 pub mod Replayed

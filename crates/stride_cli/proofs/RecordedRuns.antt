@@ -14,7 +14,7 @@ use Rattle.interleavings.specs.TraceLists.{TraceLists}
 use Rattle.linkage.specs.Sources.{event_count}
 use Rattle.event_order.specs.Laws.{ExtensionsAreWhole, traces_of}
 use Rattle.history_laws.specs.Laws.{SchedulesReplayRecordings}
-use Rattle.history_laws.specs.RecordedRuns.{IsInferred}
+use Rattle.history_laws.specs.RecordedRuns.{IsScheduleOf}
 use Rattle.replayer.specs.Replays.{IsRunOf as Plays, Results}
 use Rattle.stride_cli.specs.declared.words.Live.TheVariants.{Run}
 use Rattle.stride_cli.specs.Again.{AreRecorded, IsLogged, IsRecorded, IsRunAgain}
@@ -62,7 +62,7 @@ module _ (bytes : List ℕ) (p : Listing) (logs : List (List LogEntry)) (traces 
   follows = ap (follow_all p fuel) logged.logs_are ∙ again.follows
 
   -- the schedule is inferred from the recording
-  is_inferred : (inferred : Inferred) → IsInferredOf traces (Ordered inferred) → IsInferred (setting_of p) logged.recording inferred.schedule
+  is_inferred : (inferred : Inferred) → IsInferredOf traces (Ordered inferred) → IsScheduleOf (setting_of p) logged.recording inferred.schedule
   is_inferred inferred is =
       let P : TraceLists → Type 0 = λ traces. IsInferredOf traces (Ordered inferred) in
       let whole = subst P again.traces_are is in
@@ -99,7 +99,8 @@ module _ (bytes : List ℕ) (p : Listing) (logs : List (List LogEntry)) (traces 
   run_looks before after looks =
       let Q : Result Listing LineFault → Type 0 = λ s. RunLooks s before after in
       let R : TraceLists → Type 0 = λ traces. after ≤ before + look_limit (event_count traces) in
-      let enough : R traces = looks in
+      let same = looks_enough traces in
+      let enough : R traces = omega (arith, looks, same) in
       let within = subst R again.traces_are enough in
       let looked : HasLooked p before after = record { recording = logged.recording; recorded = logged.recorded; all = again.all; follows = follows; within = within } in
       subst Q (sym spells) (inr looked)

@@ -7,7 +7,7 @@ use Rattle.stride_isa.specs.Validity.{IsValid}
 use Rattle.sc_machine.specs.Machine.{Machine}
 use Rattle.interleavings.specs.Recording.{IsRecording, Recording}
 use Rattle.assembler.specs.Programs.{spelled}
-use Rattle.history_laws.specs.RecordedRuns.{IsInferred, IsReplayOf}
+use Rattle.history_laws.specs.RecordedRuns.{IsReplayOf, IsScheduleOf}
 use Rattle.stride_cli.specs.declared.status.Status.{Status}
 use Rattle.stride_cli.specs.declared.status.Status.TheVariants.{Done, NoMemory, ReadFault, WriteFault}
 use Rattle.stride_cli.specs.declared.words.Live.{Live}
@@ -30,7 +30,7 @@ pub record IsRecordedRun (p : Listing) (report : List ℕ) (before after : ℕ) 
   -- a list of thread numbers, one for each read, write, update, and entry into and exit from a monitor
   pub schedule : List ℕ
   -- it is the least that agrees with the recording's logs, and follows from the program and the logs alone
-  pub inferred : IsInferred (setting_of p) recording schedule
+  pub inferred : IsScheduleOf (setting_of p) recording schedule
   -- the sequentially consistent machine at the end of the schedule's run
   pub machine : Machine
   -- in this run, in which each turn could be taken, each thread makes exactly its recorded reads, writes, updates, entries and

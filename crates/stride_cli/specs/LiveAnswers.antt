@@ -11,7 +11,7 @@ use Rattle.assembler.specs.Programs.{spelled}
 use Rattle.log_format.specs.Bundles.{Bundled, IsInRange}
 use Rattle.log_format.specs.Spelling.{spelling}
 use Rattle.log_format.specs.declared.version.Version.TheVariants.{Two}
-use Rattle.history_laws.specs.RecordedRuns.{IsInferred}
+use Rattle.history_laws.specs.RecordedRuns.{IsScheduleOf}
 use Rattle.stride_cli.specs.declared.status.Status.TheVariants.{TooLong}
 use Rattle.stride_cli.specs.declared.words.Live.{Live}
 use Rattle.stride_cli.specs.declared.words.Live.TheVariants.{Bundle, Run}
@@ -25,7 +25,7 @@ pub record AnswersLiveRun (p : Listing) (answer : Answer) : Type 0 where
   pub recording : Recording
   pub recorded : IsRecording (setting_of p) recording
   pub schedule : List ℕ
-  pub inferred : IsInferred (setting_of p) recording schedule
+  pub inferred : IsScheduleOf (setting_of p) recording schedule
   pub machine : Machine
   pub runs : replayed p fuel schedule ≡ Some machine
   pub shows : answer ≡ done (replay_report schedule machine)

@@ -6,7 +6,7 @@ use Rattle.sc_machine.specs.Machine.{Machine}
 use Rattle.interleavings.specs.Recording.{IsRecording, Recording}
 use Rattle.assembler.specs.Programs.{spelled}
 use Rattle.log_format.specs.Reading.{reading}
-use Rattle.history_laws.specs.RecordedRuns.{IsInferred, IsReplayOf}
+use Rattle.history_laws.specs.RecordedRuns.{IsReplayOf, IsScheduleOf}
 use Rattle.stride_cli.specs.declared.status.Status.TheVariants.{Done}
 use Rattle.stride_cli.specs.declared.words.Command.TheVariants.{Infer, Replay}
 use Rattle.stride_cli.specs.declared.words.Live.TheVariants.{Bundle}
@@ -19,7 +19,7 @@ use Rattle.stride_cli.specs.Words.{command_named, live_named}
 -- schedule, in which each thread makes exactly its recorded events, and its lines of the transcript are its recorded output
 pub record IsReplayed (p : Listing) (recording : Recording) (recorded : IsRecording (setting_of p) recording) (answer : Answer) : Type 0 where
   pub schedule : List ℕ
-  pub inferred : IsInferred (setting_of p) recording schedule
+  pub inferred : IsScheduleOf (setting_of p) recording schedule
   pub machine : Machine
   pub replay : IsReplayOf (setting_of p) recording recorded.steps schedule machine
   pub shows : answer ≡ done (replay_report schedule machine)

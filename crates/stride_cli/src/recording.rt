@@ -24,5 +24,5 @@ pub fn record<R: Threads + Wait + Sync, G: Sync>(
     ensures few { IfOk result (λ logs. length logs.items ≤ THREAD_LIMIT) }
     ensures short { IfOk result (λ logs. AllByRecursion (λ log. length log.items ≤ FUEL) logs.items) }
 {
-    unreachable!()
+    Err(NoMemory)
 }

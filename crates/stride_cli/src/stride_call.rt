@@ -1,5 +1,5 @@
 //! The top call for all commands.
-ghost use Rattle.std.specs.Prelude.{◌≡◌, ◌×◌, ◌+◌, ◌≤◌, ◌↔◌, [], None, Ok, Some, IfSome, map, length};
+ghost use Rattle.std.specs.Prelude.{◌≡◌, ◌+◌, ◌≤◌, ◌↔◌, [], None, Ok, Some, IfSome, map, length};
 ghost use Rattle.stride_base.specs.Devices.{Rose};
 ghost use Rattle.stride_cli.specs.Headline.{Headline, IsKept, World};
 ghost use Rattle.stride_cli.specs.LiveAnswers.{AnswersLiveBytes, IsStrideAnswer};
