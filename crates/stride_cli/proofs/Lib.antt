@@ -11,7 +11,6 @@ pub mod Lines
 pub mod LivePrograms
 pub mod Logless
 pub mod Members
-pub mod Names
 pub mod OneAnswer
 pub mod RecordedBundles
 pub mod RecordedRuns
