@@ -53,6 +53,7 @@ same_report : (report other : List ℕ) → done report ≡ done other → repor
 same_report report other is = ap (λ (answer : Answer). answer.report) is
 
 module _ (laws : Laws) (p : Listing) (valid : IsValid p) (bytes : List ℕ) (is : AnswersLiveBundle p (done bytes)) where
+  -- the bundle of the recording
   abbrev bundle : Bundled
   bundle = bundle_of p is.recording
 
@@ -60,18 +61,20 @@ module _ (laws : Laws) (p : Listing) (valid : IsValid p) (bytes : List ℕ) (is 
   reads : reading bytes ≡ Ok bundle
   reads = ap reading (same_report _ _ is.shows) ∙ laws.read Two bundle is.fits
 
-  logged : AreRecorded p is.recording.logs
+  -- its logs are those of a recording
+  abbrev logged : AreRecorded p is.recording.logs
   logged = record { recording = is.recording; steps = is.recorded.steps; logs_are = refl; history = is.recorded.history; followed = is.recorded.followed }
 
+  -- the threads that follow its logs
   abbrev followed : List Followed
   followed = is.recorded.followed.followed
 
-  -- they are no longer than an input may be
+  -- the bytes are no longer than an input may be
   within : nat_lt INPUT_LIMIT (length bytes) ≡ false
   within =
       let short = is.short in
       let long = ap length (same_report _ _ is.shows) in
-      le-ltb (length bytes) INPUT_LIMIT (omega (arith, short, long))
+      le-ltb INPUT_LIMIT (length bytes) (omega (arith, short, long))
 
   module _ (Shows : Listing → Bundled → Inferred → Answer → Type 0) where
     -- what is answered to links with a schedule
