@@ -7,8 +7,7 @@ use Rattle.stride_isa.specs.Laws.{OneVerdict}
 use Rattle.stride_isa.specs.Listing.{Listing}
 use Rattle.stride_isa.specs.Validity.{IsValid}
 use Rattle.assembler.specs.Programs.{LineFault, spelled}
-use Rattle.interleavings.specs.Following.{Divergence, Followed, follow_all}
-use Rattle.interleavings.specs.Recording.{Recording, IsRecording}
+use Rattle.interleavings.specs.Following.{Divergence, Followed}
 use Rattle.event_order.specs.Laws.{traces_of}
 use Rattle.history_laws.specs.Laws.{SchedulesReplayRecordings}
 use Rattle.history_laws.specs.RecordedRuns.{IsScheduleOf}
@@ -23,8 +22,7 @@ use Rattle.stride_cli.specs.declared.words.Command.TheVariants.{Infer, Replay}
 use Rattle.stride_cli.specs.declared.words.Live.{Live}
 use Rattle.stride_cli.specs.declared.words.Live.TheVariants.{Bundle}
 use Rattle.stride_cli.specs.Again.{AreRecorded}
-use Rattle.stride_cli.specs.Answers.{Answer, AnswersBundle, AnswersBy, AnswersInference, AnswersInput, AnswersLinks, AnswersLogs, AnswersProgram, AnswersRun, AnswersVerdict, circular, done, refused, refused_code, refused_text, setting_of, unlinked}
-use Rattle.stride_cli.specs.Bundles.{Nothing}
+use Rattle.stride_cli.specs.Answers.{Answer, AnswersBundle, AnswersBy, AnswersInference, AnswersInput, AnswersLinks, AnswersLogs, AnswersProgram, AnswersRun, AnswersVerdict, done, refused, setting_of}
 use Rattle.stride_cli.specs.Inferring.{Circular, Diverging, Inference, Inferred, IsInferredBy, IsInferredOf, Ordered, Unlinked}
 use Rattle.stride_cli.specs.LiveAnswers.{AnswersLive, AnswersLiveBundle, AnswersLiveInput, AnswersNamed, bundle_of}
 use Rattle.stride_cli.specs.LiveLaws.{BundlesAreReplayed, HoldsProgram, HoldsRecording, IsReplayed}

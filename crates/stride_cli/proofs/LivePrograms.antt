@@ -1,5 +1,5 @@
 -- The answer of a live command to the program that its input spells, or its refusal.
-use Rattle.std.proofs.Common.{◌≡◌, ◌∙◌, ℕ, Bool, true, false, List, [], Option, Some, None, Result, Ok, Err, refl, sym, ap, subst, length, nat_lt}
+use Rattle.std.proofs.Common.{◌≡◌, ℕ, List, [], Option, Some, None, Result, Ok, Err, sym, ap, subst}
 use Rattle.stride_isa.specs.Faults.{Fault, IsVerdict}
 use Rattle.stride_isa.specs.Laws.{OneVerdict}
 use Rattle.stride_isa.specs.Listing.{Listing}

@@ -1,28 +1,25 @@
 -- What `run` reports is the replay of the recording that was made.
-use Rattle.std.proofs.Common.{◌≡◌, ◌∙◌, ◌⊎◌, inl, inr, ℕ, ◌+◌, ◌*◌, ◌≤◌, ◌++◌, List, Option, Some, None, Result, Ok, Err, refl, sym, ap, subst, arith, length}
+use Rattle.std.proofs.Common.{◌≡◌, ◌∙◌, inl, inr, ℕ, ◌+◌, ◌≤◌, ◌++◌, List, Some, Result, Ok, Err, sym, ap, subst, arith, length}
 use Rattle.std.proofs.lemmas.List.{length-map}
 use Rattle.stride_isa.specs.Listing.{Listing}
 use Rattle.stride_isa.specs.Validity.{IsValid}
-use Rattle.sc_machine.specs.Machine.{Machine}
-use Rattle.sc_machine.specs.Schedule.{replayed}
 use Rattle.assembler.specs.Programs.{LineFault, spelled}
 use Rattle.interleavings.specs.declared.event.LogEntry.{LogEntry}
 use Rattle.interleavings.specs.declared.traces.Place.{Place}
-use Rattle.interleavings.specs.Following.{Followed, follow_all}
-use Rattle.interleavings.specs.Recording.{Recording}
+use Rattle.interleavings.specs.Following.{follow_all}
 use Rattle.interleavings.specs.TraceLists.{TraceLists}
 use Rattle.linkage.specs.Sources.{event_count}
-use Rattle.event_order.specs.Laws.{ExtensionsAreWhole, traces_of}
+use Rattle.event_order.specs.Laws.{ExtensionsAreWhole}
 use Rattle.history_laws.specs.Laws.{SchedulesReplayRecordings}
 use Rattle.history_laws.specs.RecordedRuns.{IsScheduleOf}
 use Rattle.replayer.specs.Replays.{IsRunOf as Plays, Results}
 use Rattle.stride_cli.specs.declared.words.Live.TheVariants.{Run}
-use Rattle.stride_cli.specs.Again.{AreRecorded, IsLogged, IsRecorded, IsRunAgain}
+use Rattle.stride_cli.specs.Again.{AreRecorded, IsLogged, IsRunAgain}
 use Rattle.stride_cli.specs.Answers.{done, setting_of}
 use Rattle.stride_cli.specs.GivesLive.{IsRunOf}
-use Rattle.stride_cli.specs.Headline.{IsRecordedRun, look_limit}
+use Rattle.stride_cli.specs.Headline.{look_limit}
 use Rattle.stride_cli.specs.Inferring.{Inferred, IsInferredOf, Ordered}
-use Rattle.stride_cli.specs.LiveAnswers.{AnswersLiveInput, AnswersLiveRun}
+use Rattle.stride_cli.specs.LiveAnswers.{AnswersLiveInput}
 use Rattle.stride_cli.specs.LiveLooks.{HasLooked, LiveLooks, RunLooks}
 use Rattle.stride_cli.specs.Looks.{inferring_looks}
 use Rattle.stride_cli.specs.Reports.{replay_report, schedule_section}

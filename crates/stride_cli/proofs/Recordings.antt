@@ -1,9 +1,8 @@
 -- A recording is linked and ordered.
-use Rattle.std.proofs.Common.{◌≡◌, ◌∙◌, ℕ, ◌≤◌, List, Result, Ok, sym, ap, subst, arith}
+use Rattle.std.proofs.Common.{◌≡◌, ◌∙◌, ◌≤◌, List, Result, Ok, sym, ap, subst, arith}
 use Rattle.stride_isa.specs.Listing.{Listing}
 use Rattle.stride_isa.specs.Validity.{IsValid}
 use Rattle.interleavings.specs.declared.event.LogEntry.{LogEntry}
-use Rattle.interleavings.specs.declared.traces.Place.{Place}
 use Rattle.interleavings.specs.Following.{Divergence, Followed, follow_all}
 use Rattle.interleavings.specs.TraceLists.{TraceLists}
 use Rattle.event_order.specs.Laws.{FollowedAreInRange, traces_of}

@@ -1,5 +1,5 @@
 -- The answer of `sim` to an input, by what became of its program, its order and its recording.
-use Rattle.std.proofs.Common.{◌≡◌, ◌∙◌, ◌++◌, ℕ, List, [], Option, Some, None, Result, Ok, Err, refl, sym, ap, subst, length, append_assoc}
+use Rattle.std.proofs.Common.{◌≡◌, ◌∙◌, ◌++◌, ℕ, List, [], Option, None, Result, Ok, Err, refl, sym, ap, subst, length, append_assoc}
 use Rattle.stride_isa.specs.Listing.{Listing}
 use Rattle.stride_isa.specs.Validity.{IsValid}
 use Rattle.interleavings.specs.declared.driven.DriveError.{DriveError}
@@ -10,7 +10,6 @@ use Rattle.interleavings.specs.Driving.{driven, stranger}
 use Rattle.interleavings.specs.Following.{Divergence, Followed, follow_all}
 use Rattle.interleavings.specs.TraceLists.{TraceLists}
 use Rattle.assembler.specs.Programs.{LineFault, spelled}
-use Rattle.event_order.specs.Laws.{traces_of}
 use Rattle.replayer.specs.Replays.{IsRunOf as Plays, Results, results_of}
 use Rattle.stride_cli.specs.declared.refusal.Refusal.{Refusal}
 use Rattle.stride_cli.specs.declared.refusal.Refusal.TheVariants as refusals
@@ -18,7 +17,7 @@ use Rattle.stride_cli.specs.declared.status.MemberFault.TheVariants.{NoThread}
 use Rattle.stride_cli.specs.declared.status.Status.TheVariants as statuses
 use Rattle.stride_cli.specs.declared.words.Command.TheVariants.{Sim}
 use Rattle.stride_cli.specs.Again.{IsRecorded}
-use Rattle.stride_cli.specs.Answers.{Answer, AnswersInput, AnswersOrder, AnswersProgram, AnswersRecorded, AnswersRecording, AnswersSimulated, done, order_of, program_part, refused, refused_text, setting_of}
+use Rattle.stride_cli.specs.Answers.{Answer, AnswersInput, AnswersOrder, AnswersProgram, AnswersRecorded, AnswersSimulated, done, order_of, program_part, refused, refused_text, setting_of}
 use Rattle.stride_cli.specs.Gives.{Refuses}
 use Rattle.stride_cli.specs.Inferring.{Inferred, IsInferredBy, IsInferredOf, Ordered}
 use Rattle.stride_cli.specs.Inputs.{Accepts, IsInput}

@@ -19,6 +19,7 @@ use crate::words::Command;
 use check::check_text;
 use follow::follow_schedule;
 use infer::infer_bundle;
+pub use live::live_report_of;
 use replay::replay_bundle;
 use show::show_bundle;
 use sim::simulate;
@@ -27,8 +28,6 @@ use std::sync::ledger::Ledger;
 use stride_base::limits::INPUT_LIMIT;
 use stride_base::{List, Steps};
 use upgrade::upgrade_bundle;
-
-pub use live::live_report_of;
 
 /// The report of a command on an input that was read.
 pub fn report_of<L: Ledger>(

@@ -1,15 +1,7 @@
-use Rattle.std.proofs.Common.{◌≡◌, ◌∙◌, ◌^◌, ◌<◌, ◌≤◌, ap, arith, length, sym, subst}
-use Rattle.std.proofs.lemmas.List.{length-map}
+use Rattle.std.proofs.Common.{◌^◌, ◌<◌, arith, length}
 use Rattle.std.proofs.lemmas.Result.{err_from_is_err_and}
-use Rattle.stride_isa.specs.Limits.{thread_limit}
-use Rattle.log_format.specs.Bundles.{Bundled, IsInRange, bundled, lists_of}
-use Rattle.log_format.specs.Spelling.{spelling}
-use Rattle.log_format.specs.declared.version.Version.TheVariants.{Two}
+use Rattle.log_format.specs.Bundles.{lists_of}
 use Rattle.assembler.specs.Canonical.{canonical_limit}
-use Rattle.assembler.specs.Programs.{spelled}
-use Rattle.stride_cli.specs.Answers.{done}
-use Rattle.stride_cli.specs.LiveAnswers.{bundle_of}
-use Rattle.stride_cli.specs.Settings.{fuel}
 use Rattle.stride_cli.specs.declared.words.Live.TheVariants.{Bundle as Bundling}
 use Rattle.stride_cli.proofs.BundleLengths.{lists_few, lists_threads}
 use Rattle.stride_cli.proofs.LivePrograms.{lent_refused}

@@ -2,7 +2,6 @@ use Rattle.std.proofs.Common.{◌≡◌, ◌++◌, refl}
 use Rattle.std.proofs.lemmas.Result.{err_from_is_err_and}
 use Rattle.log_format.specs.Bundles.{lists_of}
 use Rattle.replayer.specs.Replays.{seen}
-use Rattle.stride_cli.specs.GivesLive.{IsRunOf}
 use Rattle.stride_cli.specs.Inferring.{Inferred}
 use Rattle.stride_cli.specs.Reports.{schedule_section}
 use Rattle.stride_cli.specs.Runs.{run_section}
