@@ -1,7 +1,7 @@
 //! Commands under gates: each gate forces what is logged.
 ghost use Rattle.std.specs.Prelude.{◌≡◌, ◌<◌};
 
-use crate::meeting::{Hold, Meeting, Spot};
+use crate::meeting::{Hold, Meeting, Rendezvous, Spot};
 use recorder::{Gate, OpenGate, Point};
 use std::alloc::Global;
 use std::marker::Brand;
@@ -41,15 +41,7 @@ fn report_by<L: Ledger, R: Threads + Wait + Sync, G: Gate>(
     let mut steps = Steps::<L>::new(rt, blank);
     let mut source = MemSource::new(alloc, input, &[])?;
     let mut sink = MemSink::new(alloc, 64, 1000, &[])?;
-    let status = stride(
-        rt,
-        alloc,
-        words,
-        &mut source,
-        &mut sink,
-        gate,
-        &mut steps,
-    );
+    let status = stride(rt, alloc, words, &mut source, &mut sink, gate, &mut steps);
     if status.code() != 0 {
         return Ok(None);
     }
@@ -107,10 +99,9 @@ fn reader_after() -> [Hold; 1] {
     [hold(spot(0, Point::BeforeValue), spot(1, Point::AfterTurn))]
 }
 
-const OLD_VALUE: &[u8] =
-    b"schedule 2\n0*1\n1*1\ntranscript\n0 0\nends\n0 halted\n1 halted\n";
-const NEW_VALUE: &[u8] =
-    b"schedule 2\n1*1\n0*1\ntranscript\n0 7\nends\n0 halted\n1 halted\n";
+const OLD_VALUE: &[u8] = b"schedule 2\n0*1\n1*1\ntranscript\n0 0\nends\n0 halted\n1 halted\n";
+
+const NEW_VALUE: &[u8] = b"schedule 2\n1*1\n0*1\ntranscript\n0 7\nends\n0 halted\n1 halted\n";
 
 #[test]
 fn gates_force_what_run_replays(rt: HostRuntime) -> Result<(), Fail> {
@@ -138,4 +129,66 @@ fn gates_force_what_bundle_logs(rt: HostRuntime) -> Result<(), Fail> {
     is_forced(&rt, alloc, &["bundle"], &reader_first(), &old)?;
     is_forced(&rt, alloc, &["bundle"], &writer_first(), &old)?;
     is_forced(&rt, alloc, &["bundle"], &reader_after(), &new)
+}
+
+/// Sixteen threads that each read a variable.
+fn sixteen_readers(alloc: Global) -> Result<Vec<u8>, Fail> {
+    let mut text = Vec::new(alloc);
+    text.extend_from_slice(b"var x 3\n")?;
+    for _ in 0..16u32 {
+        text.extend_from_slice(b"thread\nread x\nprint\nhalt\n")?;
+    }
+    Ok(text)
+}
+
+#[test]
+fn sixteen_threads_meet(rt: HostRuntime) -> Result<(), Fail> {
+    let alloc = rt.alloc();
+    let text = sixteen_readers(alloc)?;
+    // Each waits at its read until all have come to theirs, so none can wait for another to end.
+    let gate = Rendezvous::of(16);
+    let report = report_of(&rt, alloc, &["run"], &text, &gate)?;
+    assert!(rt; gate.succeeded());
+    assert!(rt; report.is_some());
+    Ok(())
+}
+
+// How a command on devices that fail at these calls ends, and what the sink then holds. The sink takes four bytes a call.
+fn ending_by<L: Ledger, R: Threads + Wait + Sync>(
+    rt: &R,
+    alloc: Global,
+    failing_reads: &[u32],
+    failing_puts: &[u32],
+    blank: Blank,
+) -> Result<(u8, Vec<u8>), Fail>
+    requires name { blank.name ≡ L.name }
+    requires parts { blank.parts ≡ L.parts }
+    requires some_part { 0 < blank.parts }
+{
+    let mut steps = Steps::<L>::new(rt, blank);
+    let text = b"thread\npush 18446744073709551615\npush 1\nadd\nprint\nhalt\n";
+    let mut source = MemSource::new(alloc, text, failing_reads)?;
+    let mut sink = MemSink::new(alloc, 4, 100, failing_puts)?;
+    let status = stride(
+        rt,
+        alloc,
+        &["run"],
+        &mut source,
+        &mut sink,
+        &OpenGate,
+        &mut steps,
+    );
+    Ok((status.code(), sink.bytes().to_vec(alloc)?))
+}
+
+#[test]
+fn devices_fail_under_run(rt: HostRuntime) -> Result<(), Fail> {
+    let alloc = rt.alloc();
+    let (status, held) = ending_by::<Brand, HostRuntime>(&rt, alloc, &[], &[2], Blank::new(1))?;
+    assert_eq!(rt; status, 9);
+    assert!(rt; held.as_slice() == b"sche");
+    let (status, held) = ending_by::<Brand, HostRuntime>(&rt, alloc, &[1], &[], Blank::new(1))?;
+    assert_eq!(rt; status, 2);
+    assert!(rt; held.is_empty());
+    Ok(())
 }

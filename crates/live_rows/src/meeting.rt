@@ -1,4 +1,4 @@
-//! Gates that hold a thread at a point until another has come to one of its own.
+//! Gates that hold a thread at a point until another has come to one of its own, or until all have come to theirs.
 
 use recorder::{Gate, Point};
 use std::sync::Wait;
@@ -69,10 +69,8 @@ impl<'h> Meeting<'h> {
     /// Whether each thread came to each spot that is named, and none was held too long.
     pub(crate) fn succeeded(&self) -> bool {
         !self.late.load(Ordering::SeqCst)
-            && self
-                .holds
-                .iter()
-                .all(|hold| self.has_reached(hold.at) && self.has_reached(hold.until))
+            && self.holds.iter().all(|hold| self.has_reached(hold.at)
+                && self.has_reached(hold.until))
     }
 }
 
@@ -85,5 +83,43 @@ impl Gate for Meeting<'_> {
                 self.wait_for(hold.until);
             }
         }
+    }
+}
+
+/// Where each of so many threads waits, at its first read, until all have come there.
+pub(crate) struct Rendezvous {
+    threads: u64,
+    arrived: AtomicU64,
+    late: AtomicBool,
+}
+
+impl Rendezvous {
+    pub(crate) fn of(threads: u64) -> Rendezvous {
+        Rendezvous {
+            threads,
+            arrived: AtomicU64::new(0),
+            late: AtomicBool::new(false),
+        }
+    }
+
+    /// Whether all came, and none waited too long.
+    pub(crate) fn succeeded(&self) -> bool {
+        !self.late.load(Ordering::SeqCst) && self.arrived.load(Ordering::SeqCst) >= self.threads
+    }
+}
+
+impl Gate for Rendezvous {
+    fn at<R: Wait>(&self, _rt: &R, _thread: u32, point: Point) {
+        if point != Point::BeforeValue {
+            return;
+        }
+        self.arrived.fetch_add(1, Ordering::SeqCst);
+        for _ in 0..TURNS {
+            if self.arrived.load(Ordering::SeqCst) >= self.threads {
+                return;
+            }
+            yield_now();
+        }
+        self.late.store(true, Ordering::SeqCst);
     }
 }

@@ -45,6 +45,7 @@ const TRAPS: &str =
 
 /// Takes two monitors in one order, and in the other.
 const ONE_ORDER: &str = "top:\nenter m\nenter n\nread x\nprint\nexit n\nexit m\njump top\n";
+
 const OTHER_ORDER: &str = "top:\nenter n\nenter m\nread y\nprint\nexit m\nexit n\njump top\n";
 
 /// A program of so many threads, which have these codes in turn.
@@ -113,8 +114,14 @@ fn record_again<R: Threads + Wait + Sync + Abort>(
 ) -> Result<u32, Fail> {
     let mut stopped = 0u32;
     for _ in 0..often {
-        let (taken, played) =
-            replayed_by::<Brand, R>(rt, alloc, program, fuel, patience, Blank::new(1))?;
+        let (taken, played) = replayed_by::<Brand, R>(
+            rt,
+            alloc,
+            program,
+            fuel,
+            patience,
+            Blank::new(1),
+        )?;
         assert!(rt; played.ends.as_slice() == taken.ends.as_slice());
         assert!(rt; played.last_values.as_slice() == taken.last_values.as_slice());
         for (thread, output) in taken.outputs.as_slice().iter().enumerate() {
@@ -134,7 +141,12 @@ fn record_again<R: Threads + Wait + Sync + Abort>(
 fn threads_that_race_are_replayed(rt: HostRuntime) -> Result<(), Fail> {
     let alloc = rt.alloc();
     for threads in [2, 4, 16] {
-        for codes in [[RACE, RACE], [READS, RACE], [UPDATES, READS], [MONITORS, UPDATES]] {
+        for codes in [
+            [RACE, RACE],
+            [READS, RACE],
+            [UPDATES, READS],
+            [MONITORS, UPDATES],
+        ] {
             let program = program_of(alloc, &codes, threads)?;
             let stopped = record_again(&rt, alloc, &program, 100_000, 10_000_000, 10)?;
             assert_eq!(rt; stopped, 0);
@@ -169,8 +181,8 @@ fn a_loop_ends_out_of_steps(rt: HostRuntime) -> Result<(), Fail> {
         let mut session = Session::reserve(alloc, &program, fuel, 100_000)?;
         session.run_threads(&rt, &OpenGate);
         let taken = session.finish();
-        assert!(&rt; taken.ends.as_slice() == [End::OutOfSteps]);
-        assert!(&rt; taken.logs.as_slice().iter().all(|log| log.is_empty()));
+        assert!(rt; taken.ends.as_slice() == [End::OutOfSteps]);
+        assert!(rt; taken.logs.as_slice().iter().all(|log| log.is_empty()));
     }
     Ok(())
 }
