@@ -1,3 +1,4 @@
 pub mod Accessing
+pub mod Halves
 pub mod Sessions
 pub mod Threads

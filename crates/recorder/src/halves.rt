@@ -1,10 +1,11 @@
 //! The threads of a session, each on a thread of its own.
-ghost use Rattle.recorder.specs.Sessions.{CanRun, HasRunOne, Ran};
+ghost use Rattle.std.specs.Prelude.{[], ◌∷◌};
+ghost use Rattle.std.specs.Thread.{IsSync};
+ghost use Rattle.recorder.specs.Halves.{CanRun, Ran, setting_of};
 
 use crate::gate::Gate;
 use crate::recording::record_thread;
 use crate::slot::Slot;
-use interleavings::LogEntry;
 use sc_machine::ThreadRun;
 use shared_rule::{Pass, Shared};
 use std::alloc::Global;
@@ -15,6 +16,7 @@ use stride_base::List;
 use stride_isa::Checked;
 
 /// What all threads of a session have in common.
+#[derive(Drop)]
 pub(crate) struct Task<'s, G> {
     pub alloc: Global,
     pub shared: &'s Shared,
@@ -31,7 +33,10 @@ fn record_one<R: Wait, G: Gate>(
     pass: &mut Pass,
     slot: &mut Slot,
     thread: u32,
-) {
+)
+    requires { CanRun (setting_of task.now) task.now.shared.now thread 0 pass.old (slot.old ∷ []) }
+    ensures { Ran (setting_of task.now) task.now.shared.now thread pass.old pass.new (slot.new ∷ []) }
+{
     let mut own = task.shared.split(pass);
     task.shared.draw(&mut own);
     // The lists grow on this thread's stack: in a row of slots the threads would write into each other's lines of memory.
@@ -61,7 +66,10 @@ pub(crate) fn record_all<R: Threads + Wait + Sync, G: Gate>(
     slots: &mut [Slot],
     first: u32,
     depth: u32,
-) {
+)
+    requires { CanRun (setting_of task.now) task.now.shared.now first depth pass.old slots.old }
+    ensures { Ran (setting_of task.now) task.now.shared.now first pass.old pass.new slots.new }
+{
     match slots {
         [] => (),
         [slot] => record_one(rt, task, pass, slot, first),
@@ -69,17 +77,18 @@ pub(crate) fn record_all<R: Threads + Wait + Sync, G: Gate>(
             let middle = slots.len() / 2;
             let (left, right) = slots.split_at_mut(middle);
             let mut other = task.shared.split(pass);
+            let below = depth - 1;
+            let second = first + middle as u32;
             join_mut(
                 rt,
-                &mut || record_all(rt, task, pass, left, first, depth - 1),
-                &mut || record_all(
-                    rt,
-                    task,
-                    &mut other,
-                    right,
-                    first + middle as u32,
-                    depth - 1,
-                ),
+                &mut ||
+                    requires { IsSync R.row × CanRun (setting_of task.now) task.now.shared.now first below pass.now left.now }
+                    ensures { Ran (setting_of task.entry.now) task.entry.now.shared.now first pass.entry.now pass.exit.now left.exit.now }
+                { record_all(rt, task, pass, left, first, below) },
+                &mut ||
+                    requires { IsSync R.row × CanRun (setting_of task.now) task.now.shared.now second below other.now right.now }
+                    ensures { Ran (setting_of task.entry.now) task.entry.now.shared.now second other.entry.now other.exit.now right.exit.now }
+                { record_all(rt, task, &mut other, right, second, below) },
             );
             task.shared.gather(pass, other);
         }

@@ -1,24 +1,46 @@
 //! Sessions: a program is recorded once, on threads of its own.
 ghost use Rattle.std.specs.Prelude.{◌≡◌, ◌≤◌, length, IfOk};
 ghost use Rattle.interleavings.specs.Recording.{IsRecording};
-ghost use Rattle.recorder.specs.Sessions.{AreShort, HasRun, IsReserved, recording_in, setting_in};
+ghost use Rattle.recorder.specs.Sessions.{AreShort, HasRoom, HasRun, IsReserved, recording_in, setting_in};
+ghost use Rattle.stride_isa.specs.Listing.{starts_of};
 
 use crate::gate::Gate;
 use crate::halves::{Task, record_all};
-use crate::slot::Slot;
+use crate::slot::{Slot, free_slots};
 use crate::taken::Taken;
 use interleavings::{LogEntry, PATIENCE_LIMIT};
 use sc_machine::End;
-use sc_machine::limits::LINE_LIMIT;
 use shared_rule::{Pass, Shared};
 use std::alloc::Global;
 use std::sync::Wait;
 use std::thread::Threads;
 use stride_base::{List, NoMemory};
-use stride_isa::Checked;
+use stride_isa::{Checked, each_cell_starts};
 use stride_isa::limits::{FUEL_LIMIT, THREAD_LIMIT};
 
+// The starting values of the program's cells, in order.
+fn starting_values(alloc: Global, program: &Checked) -> Result<Vec<u64>, NoMemory>
+    ensures { IfOk result (λ starts. starts.items ≡ starts_of program.now.decls) }
+{
+    each_cell_starts();
+    let mut starts = Vec::new(alloc);
+    for cell in 0..program.cells() {
+        starts.push(program.start_of(cell))?;
+    }
+    Ok(starts)
+}
+
+// An empty list with room for so many items.
+fn with_room<T: Drop>(alloc: Global, count: usize) -> Result<List<T>, NoMemory>
+    ensures { IfOk result (HasRoom count) }
+{
+    let mut list = List::new(alloc);
+    list.reserve(count)?;
+    Ok(list)
+}
+
 /// The recording of a program: its shared words, and what is kept of each thread. All memory is taken by `reserve`.
+#[derive(Drop)]
 pub struct Session<'p> {
     alloc: Global,
     program: &'p Checked,
@@ -48,8 +70,24 @@ impl<'p> Session<'p> {
         ensures setting { IfOk result (λ s. setting_in s ≡ record { program = program.now; fuel = fuel; patience = patience }) }
         ensures reserved { IfOk result IsReserved }
     {
-        let threads = program.thread_count();
-        todo!()
+        each_cell_starts();
+        program.facts();
+        let starts = starting_values(alloc, program)?;
+        let (shared, pass) = Shared::prepare(alloc, starts.as_slice(), program.monitors())?;
+        let threads = program.threads() as usize;
+        Ok(Session {
+            alloc,
+            program,
+            fuel,
+            patience,
+            shared,
+            pass,
+            slots: free_slots(alloc, program.threads(), fuel)?,
+            logs: with_room(alloc, threads)?,
+            outputs: with_room(alloc, threads)?,
+            ends: with_room(alloc, threads)?,
+            last_values: with_room(alloc, program.cells() as usize)?,
+        })
     }
 
     /// Runs all threads of the program beside each other, and records each. It refuses nothing and takes no memory.
@@ -76,6 +114,32 @@ impl<'p> Session<'p> {
         ensures few { length result.logs.items ≤ THREAD_LIMIT }
         ensures short { AreShort self.fuel result.logs.items }
     {
-        todo!()
+        let Session {
+            program,
+            shared,
+            pass,
+            slots,
+            mut logs,
+            mut outputs,
+            mut ends,
+            mut last_values,
+            ..
+        } = self;
+        let closed = shared.close(pass);
+        for slot in slots {
+            let Slot { log, out, end } = slot;
+            logs.push_spare(log);
+            outputs.push_spare(out);
+            ends.push_spare(end);
+        }
+        for cell in 0..program.cells() {
+            last_values.push_spare(closed.value(cell));
+        }
+        Taken {
+            logs,
+            outputs,
+            ends,
+            last_values,
+        }
     }
 }
