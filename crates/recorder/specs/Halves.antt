@@ -1,7 +1,6 @@
 -- What recording a row of threads needs and leaves, each thread with a slot of its own.
-use Rattle.std.specs.Prelude.{◌≡◌, ℕ, ◌+◌, ◌*◌, ◌^◌, ◌<◌, ◌≤◌, List, [], ◌∷◌, ◌++◌, length}
+use Rattle.std.specs.Prelude.{◌≡◌, ℕ, ◌+◌, ◌*◌, ◌^◌, ◌≤◌, List, [], ◌∷◌, ◌++◌, length}
 use Rattle.std.specs.List.{AllByRecursion}
-use Rattle.atomic_table.specs.declared.shared.Seat.{Seat}
 use Rattle.stride_isa.specs.Limits.{fuel_limit, thread_limit}
 use Rattle.stride_isa.specs.Listing.{starts_of}
 use Rattle.sc_machine.specs.declared.limits.TheConstants.{LINE_LIMIT}
@@ -11,7 +10,7 @@ use Rattle.interleavings.specs.History.{newcomer}
 use Rattle.interleavings.specs.Recording.{Setting}
 use Rattle.shared_rule.specs.declared.shared.Shared.{Shared}
 use Rattle.shared_rule.specs.declared.view.View.{View}
-use Rattle.shared_rule.specs.Passes.{IsPassOf, monitors_in, starts_in, view_of}
+use Rattle.shared_rule.specs.Passes.{monitors_in, starts_in}
 use Rattle.recorder.specs.declared.halves.Task.{Task}
 use Rattle.recorder.specs.declared.slot.Slot.{Slot}
 use Rattle.recorder.specs.Threads.{IsThreadRecorded}
@@ -49,23 +48,21 @@ AreKept g t [] (activity ∷ gathered) = ⊥
 AreKept g t (slot ∷ slots) [] = ⊥
 AreKept g t (slot ∷ slots) (activity ∷ gathered) = IsKept g t slot activity × AreKept g (t + 1) slots gathered
 
--- the threads from this number on can be recorded into these slots, by halves of halves as often as the depth says: the pass has
--- no name and can draw one for each half
-pub record CanRun (g : Setting) (shared : Shared) (first depth : ℕ) (pass : Seat (Unit {0}) View) (slots : List Slot) : Type 0 where
+-- a pass that knows this can record the threads from this number on into these slots, by halves of halves as often as the depth
+-- says: it has no name and done nothing, and there are two draws for each thread that the depth allows
+pub record CanRun (g : Setting) (shared : Shared) (first depth : ℕ) (v : View) (slots : List Slot) : Type 0 where
   pub suits : Suits g shared
-  pub pass_of : IsPassOf shared pass
-  pub nameless : (view_of pass).activity ≡ newcomer.activity
+  pub nameless : v.activity ≡ newcomer.activity
   pub free : AllByRecursion (IsFree g.fuel) slots
   pub numbers : first + length slots ≤ length g.program.threads
   pub deep : length slots ≤ 2 ^ depth
-  pub draws : 2 * 2 ^ depth ≤ (view_of pass).draws
+  pub draws : 2 * 2 ^ depth ≤ v.draws
 
--- the threads from this number on were recorded into these slots: the pass has no name still, has gathered one more name for each
--- thread, in the order of their numbers, and has used up as many draws
-pub record Ran (g : Setting) (shared : Shared) (first : ℕ) (before now : Seat (Unit {0}) View) (slots : List Slot) : Type 0 where
-  pub pass_of : IsPassOf shared now
-  pub nameless : (view_of now).activity ≡ newcomer.activity
+-- a pass has recorded the threads from this number on into these slots: it has no name still and done nothing itself, has gathered
+-- one more for each thread, in the order of their numbers, and has used up as many draws
+pub record Ran (g : Setting) (first : ℕ) (before now : View) (slots : List Slot) : Type 0 where
+  pub nameless : now.activity ≡ newcomer.activity
   pub people : List Activity
-  pub gathered : (view_of now).gathered ≡ (view_of before).gathered ++ people
+  pub gathered : now.gathered ≡ before.gathered ++ people
   pub kept : AreKept g first slots people
-  pub draws : (view_of now).draws + length slots ≡ (view_of before).draws
+  pub draws : now.draws + length slots ≡ before.draws

@@ -1,5 +1,5 @@
 -- What a session holds before and after its threads have run, and what it gives.
-use Rattle.std.specs.Prelude.{◌≡◌, ℕ, ◌+◌, ◌≤◌, List, [], length, map}
+use Rattle.std.specs.Prelude.{◌≡◌, ℕ, ◌+◌, ◌≤◌, List, length, map}
 use Rattle.std.specs.List.{AllByRecursion}
 use Rattle.stride_base.specs.Listed.{Listed}
 use Rattle.stride_isa.specs.Listing.{cell_count}
@@ -11,6 +11,7 @@ use Rattle.shared_rule.specs.Views.{first_view}
 use Rattle.recorder.specs.declared.session.Session.{Session}
 use Rattle.recorder.specs.declared.taken.Taken.{Taken}
 use Rattle.recorder.specs.Halves.{AreKept, IsFree, Suits}
+use Rattle.recorder.specs.Takings.{IsBlank}
 
 -- what is fixed of a session
 abbrev pub setting_in : Session → Setting
@@ -29,20 +30,12 @@ recording_in taken = record {
 abbrev pub AreShort : ℕ → List (Listed LogEntry) → Type 0
 AreShort fuel logs = AllByRecursion (λ log. length log.items ≤ fuel) logs
 
--- a list that is still empty has room for so many items
-pub record HasRoom {X : Type 0} (count : ℕ) (list : Listed X) : Type 0 where
-  pub empty : list.items ≡ []
-  pub room : count ≤ list.spare
-
 -- the words and the slots are those of the program, and there is room for what the session gives
 pub record Fits (s : Session) : Type 0 where
   pub suits : Suits (setting_in s) s.shared
   pub pass_of : IsPassOf s.shared s.pass
   pub count : length s.slots.items ≡ length s.program.now.threads
-  pub logs : HasRoom (length s.program.now.threads) s.logs
-  pub outputs : HasRoom (length s.program.now.threads) s.outputs
-  pub ends : HasRoom (length s.program.now.threads) s.ends
-  pub last_values : HasRoom (cell_count s.program.now.decls) s.last_values
+  pub blank : IsBlank (length s.program.now.threads) (cell_count s.program.now.decls) s.taken
 
 -- no thread has run
 pub record IsReserved (s : Session) : Type 0 where

@@ -2,6 +2,7 @@
 ghost use Rattle.std.specs.Prelude.{[], ◌∷◌};
 ghost use Rattle.std.specs.Thread.{IsSync};
 ghost use Rattle.recorder.specs.Halves.{CanRun, Ran, setting_of};
+ghost use Rattle.shared_rule.specs.Passes.{IsPassOf, view_of};
 
 use crate::gate::Gate;
 use crate::recording::record_thread;
@@ -34,8 +35,10 @@ fn record_one<R: Wait, G: Gate>(
     slot: &mut Slot,
     thread: u32,
 )
-    requires { CanRun (setting_of task.now) task.now.shared.now thread 0 pass.old (slot.old ∷ []) }
-    ensures { Ran (setting_of task.now) task.now.shared.now thread pass.old pass.new (slot.new ∷ []) }
+    requires pass { IsPassOf task.now.shared.now pass.old }
+    requires can { CanRun (setting_of task.now) task.now.shared.now thread 0 (view_of pass.old) (slot.old ∷ []) }
+    ensures pass { IsPassOf task.now.shared.now pass.new }
+    ensures ran { Ran (setting_of task.now) thread (view_of pass.old) (view_of pass.new) (slot.new ∷ []) }
 {
     let mut own = task.shared.split(pass);
     task.shared.draw(&mut own);
@@ -67,8 +70,10 @@ pub(crate) fn record_all<R: Threads + Wait + Sync, G: Gate>(
     first: u32,
     depth: u32,
 )
-    requires { CanRun (setting_of task.now) task.now.shared.now first depth pass.old slots.old }
-    ensures { Ran (setting_of task.now) task.now.shared.now first pass.old pass.new slots.new }
+    requires pass { IsPassOf task.now.shared.now pass.old }
+    requires can { CanRun (setting_of task.now) task.now.shared.now first depth (view_of pass.old) slots.old }
+    ensures pass { IsPassOf task.now.shared.now pass.new }
+    ensures ran { Ran (setting_of task.now) first (view_of pass.old) (view_of pass.new) slots.new }
 {
     match slots {
         [] => (),
@@ -82,12 +87,12 @@ pub(crate) fn record_all<R: Threads + Wait + Sync, G: Gate>(
             join_mut(
                 rt,
                 &mut ||
-                    requires { IsSync R.row × CanRun (setting_of task.now) task.now.shared.now first below pass.now left.now }
-                    ensures { Ran (setting_of task.entry.now) task.entry.now.shared.now first pass.entry.now pass.exit.now left.exit.now }
+                    requires { IsSync R.row × IsPassOf task.now.shared.now pass.now × CanRun (setting_of task.now) task.now.shared.now first below (view_of pass.now) left.now }
+                    ensures { IsPassOf task.entry.now.shared.now pass.exit.now × Ran (setting_of task.entry.now) first (view_of pass.entry.now) (view_of pass.exit.now) left.exit.now }
                 { record_all(rt, task, pass, left, first, below) },
                 &mut ||
-                    requires { IsSync R.row × CanRun (setting_of task.now) task.now.shared.now second below other.now right.now }
-                    ensures { Ran (setting_of task.entry.now) task.entry.now.shared.now second other.entry.now other.exit.now right.exit.now }
+                    requires { IsSync R.row × IsPassOf task.now.shared.now other × CanRun (setting_of task.now) task.now.shared.now second below (view_of other) right.now }
+                    ensures { IsPassOf task.entry.now.shared.now other.exit × Ran (setting_of task.entry.now) second (view_of other.entry) (view_of other.exit) right.exit.now }
                 { record_all(rt, task, &mut other, right, second, below) },
             );
             task.shared.gather(pass, other);

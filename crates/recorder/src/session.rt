@@ -1,22 +1,21 @@
 //! Sessions: a program is recorded once, on threads of its own.
 ghost use Rattle.std.specs.Prelude.{◌≡◌, ◌≤◌, length, IfOk};
 ghost use Rattle.interleavings.specs.Recording.{IsRecording};
-ghost use Rattle.recorder.specs.Sessions.{AreShort, HasRoom, HasRun, IsReserved, recording_in, setting_in};
+ghost use Rattle.recorder.specs.Sessions.{AreShort, HasRun, IsReserved, recording_in, setting_in};
 ghost use Rattle.stride_isa.specs.Listing.{starts_of};
 
 use crate::gate::Gate;
 use crate::halves::{Task, record_all};
 use crate::slot::{Slot, free_slots};
 use crate::taken::Taken;
-use interleavings::{LogEntry, PATIENCE_LIMIT};
-use sc_machine::End;
+use interleavings::PATIENCE_LIMIT;
 use shared_rule::{Pass, Shared};
 use std::alloc::Global;
 use std::sync::Wait;
 use std::thread::Threads;
-use stride_base::{List, NoMemory};
-use stride_isa::{Checked, each_cell_starts};
+use stride_base::NoMemory;
 use stride_isa::limits::{FUEL_LIMIT, THREAD_LIMIT};
+use stride_isa::{Checked, each_cell_starts};
 
 // The starting values of the program's cells, in order.
 fn starting_values(alloc: Global, program: &Checked) -> Result<Vec<u64>, NoMemory>
@@ -30,15 +29,6 @@ fn starting_values(alloc: Global, program: &Checked) -> Result<Vec<u64>, NoMemor
     Ok(starts)
 }
 
-// An empty list with room for so many items.
-fn with_room<T: Drop>(alloc: Global, count: usize) -> Result<List<T>, NoMemory>
-    ensures { IfOk result (HasRoom count) }
-{
-    let mut list = List::new(alloc);
-    list.reserve(count)?;
-    Ok(list)
-}
-
 /// The recording of a program: its shared words, and what is kept of each thread. All memory is taken by `reserve`.
 #[derive(Drop)]
 pub struct Session<'p> {
@@ -49,10 +39,7 @@ pub struct Session<'p> {
     shared: Shared,
     pass: Pass,
     slots: Vec<Slot>,
-    logs: List<List<LogEntry>>,
-    outputs: List<List<u8>>,
-    ends: List<End>,
-    last_values: List<u64>,
+    taken: Taken,
 }
 
 impl<'p> Session<'p> {
@@ -74,7 +61,7 @@ impl<'p> Session<'p> {
         program.facts();
         let starts = starting_values(alloc, program)?;
         let (shared, pass) = Shared::prepare(alloc, starts.as_slice(), program.monitors())?;
-        let threads = program.threads() as usize;
+        let threads = program.threads();
         Ok(Session {
             alloc,
             program,
@@ -82,11 +69,8 @@ impl<'p> Session<'p> {
             patience,
             shared,
             pass,
-            slots: free_slots(alloc, program.threads(), fuel)?,
-            logs: with_room(alloc, threads)?,
-            outputs: with_room(alloc, threads)?,
-            ends: with_room(alloc, threads)?,
-            last_values: with_room(alloc, program.cells() as usize)?,
+            slots: free_slots(alloc, threads, fuel)?,
+            taken: Taken::reserve(alloc, threads as usize, program.cells() as usize)?,
         })
     }
 
@@ -110,36 +94,22 @@ impl<'p> Session<'p> {
     /// What was recorded. It refuses nothing and takes no memory.
     pub fn finish(self) -> Taken
         requires { HasRun self }
-        ensures recording { IsRecording (setting_in self) (recording_in result) }
+        ensures recording { IsRecording (setting_in self.entry) (recording_in result) }
         ensures few { length result.logs.items ≤ THREAD_LIMIT }
-        ensures short { AreShort self.fuel result.logs.items }
+        ensures short { AreShort self.entry.fuel result.logs.items }
     {
+        each_cell_starts();
         let Session {
             program,
             shared,
             pass,
             slots,
-            mut logs,
-            mut outputs,
-            mut ends,
-            mut last_values,
+            mut taken,
             ..
         } = self;
         let closed = shared.close(pass);
-        for slot in slots {
-            let Slot { log, out, end } = slot;
-            logs.push_spare(log);
-            outputs.push_spare(out);
-            ends.push_spare(end);
-        }
-        for cell in 0..program.cells() {
-            last_values.push_spare(closed.value(cell));
-        }
-        Taken {
-            logs,
-            outputs,
-            ends,
-            last_values,
-        }
+        taken.add_threads(slots);
+        taken.add_last_values(&closed, program.cells());
+        taken
     }
 }
