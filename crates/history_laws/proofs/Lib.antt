@@ -1,7 +1,9 @@
 pub mod Examples
+pub mod LastWrites
 pub mod Linked
 pub mod Orders
 pub mod Ordered
 pub mod OtherCores
+pub mod RecordedRuns
 pub mod Recordings
 pub mod Told

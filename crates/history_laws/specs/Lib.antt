@@ -1,2 +1,3 @@
 pub mod HistoryEvents
 pub mod Laws
+pub mod RecordedRuns

@@ -1,5 +1,5 @@
 -- No instruction stops a thread: only giving up does.
-use Rattle.std.proofs.Common.{◌≡◌, ℕ, zero, suc, ◌+◌, ◌-◌, ◌==◌, Bool, List, [], ◌∷◌, Option, Some, None, refl, ◌∙◌, ap, subst, sym}
+use Rattle.std.proofs.Common.{◌≡◌, ℕ, zero, suc, ◌+◌, ◌-◌, ◌==◌, Bool, List, [], ◌∷◌, Option, Some, None, subst}
 use Rattle.std.proofs.lemmas.Bool.{cond_both}
 use Rattle.std.specs.Prelude.{nat_lt}
 use Rattle.std.specs.List.{list_any}
@@ -9,7 +9,7 @@ use Rattle.stride_isa.specs.declared.op.Op.TheVariants as ops
 use Rattle.sc_machine.specs.declared.end.End.{End}
 use Rattle.sc_machine.specs.declared.end.End.TheVariants.{Halted, Trapped, OutOfSteps, Stopped}
 use Rattle.sc_machine.specs.declared.stop.Stop.{Stop}
-use Rattle.sc_machine.specs.ThreadStep.{Thread, Row, Goes, Ends, Stands, row, start_thread, halt_end, divided, member_cell, on_member, holds, now_unless, now, moved, out_of_steps, local_step, local_steps, settled, answered}
+use Rattle.sc_machine.specs.ThreadStep.{Thread, Row, Goes, Ends, Stands, row, start_thread, divided, member_cell, on_member, holds, now_unless, now, moved, out_of_steps, local_step, local_steps, settled, answered}
 use Rattle.interleavings.specs.declared.event.Event.{Event}
 use Rattle.interleavings.specs.Events.{word_given}
 use Rattle.interleavings.specs.EventStep.{after_event}
