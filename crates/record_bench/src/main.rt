@@ -9,7 +9,7 @@ use std::io;
 use std::process::ExitCode;
 use std::sync::Wait;
 use std::thread::Threads;
-use std::time::{Clock, Instant};
+use std::time::{Clock, Duration, Instant};
 use stride_base::limits::INPUT_LIMIT;
 use stride_base::{StdSource, read_all};
 use stride_isa::{Checked, check};
@@ -30,6 +30,11 @@ struct Timed {
     entries: usize,
 }
 
+fn nanos_of(time: Duration) -> u64 {
+    let seconds = time.as_secs().saturating_mul(1_000_000_000);
+    seconds.saturating_add(u64::from(time.subsec_nanos()))
+}
+
 fn record_once<R: Threads + Wait + Clock + Sync>(
     rt: &R,
     alloc: Global,
@@ -40,14 +45,16 @@ fn record_once<R: Threads + Wait + Clock + Sync>(
     };
     let start = Instant::now(rt).map_err(|_: io::Error| "there is no clock")?;
     session.run_threads(rt, &OpenGate);
-    let time = start.elapsed(rt).map_err(|_: io::Error| "there is no clock")?;
+    let time = start
+        .elapsed(rt)
+        .map_err(|_: io::Error| "there is no clock")?;
     let taken = session.finish();
     let mut entries = 0usize;
     for log in taken.logs.as_slice() {
         entries = entries.saturating_add(log.len());
     }
     Ok(Timed {
-        nanos: time.as_nanos() as u64,
+        nanos: nanos_of(time),
         entries,
     })
 }
@@ -63,25 +70,31 @@ fn program_of<R: Input>(rt: &R, alloc: Global) -> Result<Checked, &'static str> 
     check(alloc, program).map_err(|_| "the program is refused")
 }
 
-fn bench<R: Threads + Wait + Clock + Sync + Input + Print>(
+fn bench<R: Threads + Wait + Clock + Sync + Input>(
     rt: &R,
     alloc: Global,
-) -> Result<(), &'static str> {
+) -> Result<[Timed; REPEATS], &'static str> {
     let program = program_of(rt, alloc)?;
-    let mut times = [0; REPEATS];
-    for time in times.iter_mut() {
-        let timed = record_once(rt, alloc, &program)?;
-        *time = timed.nanos;
-        let _ = eprintln!(rt; "{} entries, {} ns", timed.entries, timed.nanos);
+    let mut recordings = [Timed {
+        nanos: 0,
+        entries: 0,
+    }; REPEATS];
+    for recording in recordings.iter_mut() {
+        *recording = record_once(rt, alloc, &program)?;
     }
-    times.sort_unstable();
-    let _ = eprintln!(rt; "median {} ns", times[REPEATS / 2]);
-    Ok(())
+    Ok(recordings)
 }
 
 fn main(rt: HostRuntime) -> ExitCode {
     match bench(&rt, rt.alloc()) {
-        Ok(()) => ExitCode::SUCCESS,
+        Ok(mut recordings) => {
+            for Timed { nanos, entries } in recordings {
+                let _ = eprintln!(rt; "{entries} entries, {nanos} ns");
+            }
+            recordings.sort_unstable_by_key(|recording| recording.nanos);
+            let _ = eprintln!(rt; "median {} ns", recordings[REPEATS / 2].nanos);
+            ExitCode::SUCCESS
+        }
         Err(fault) => {
             let _ = eprintln!(rt; "{fault}");
             ExitCode::FAILURE
