@@ -22,7 +22,7 @@ mod tests;
 mod turning;
 mod walking;
 
-pub use arranging::arrange;
+pub use arranging::{arrange, arrange_owned};
 pub use laws::{
     cycles_exclude, extensions_are_runs, extensions_are_whole, followed_are_in_range,
     followed_is_told, least_or_cycle, one_cycle, one_least,
