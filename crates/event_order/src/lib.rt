@@ -19,6 +19,7 @@ mod slot;
 mod table;
 #[cfg(test)]
 mod tests;
+mod thread_set;
 mod turning;
 mod walking;
 
