@@ -1,31 +1,32 @@
--- The recording that an order gives is linked and ordered.
-use Rattle.std.proofs.Common.{◌≡◌, ◌∙◌, ℕ, List, Result, Ok, sym, ap, subst}
+-- A recording is linked and ordered.
+use Rattle.std.proofs.Common.{◌≡◌, ◌∙◌, ℕ, ◌≤◌, List, Result, Ok, sym, ap, subst, arith}
 use Rattle.stride_isa.specs.Listing.{Listing}
+use Rattle.stride_isa.specs.Validity.{IsValid}
+use Rattle.interleavings.specs.declared.event.LogEntry.{LogEntry}
 use Rattle.interleavings.specs.declared.traces.Place.{Place}
-use Rattle.interleavings.specs.Driving.{driven, stranger, whole_run}
-use Rattle.interleavings.specs.Following.{Divergence, Followed}
-use Rattle.interleavings.specs.Laws.{DrivenIsAHistory, DrivenIsFollowed}
-use Rattle.interleavings.specs.Recording.{Setting}
+use Rattle.interleavings.specs.Following.{Divergence, Followed, follow_all}
 use Rattle.interleavings.specs.TraceLists.{TraceLists}
 use Rattle.event_order.specs.Laws.{FollowedAreInRange, traces_of}
 use Rattle.history_laws.specs.HistoryEvents.{AreEventsOf}
 use Rattle.history_laws.specs.Laws.{HistoriesAreLinked, HistoriesAreOrdered, RecordingsAreHistories}
 use Rattle.stride_cli.specs.declared.refusal.Refusal.TheVariants as refusals
 use Rattle.stride_cli.specs.declared.status.LinkageFault.{LinkageFault}
-use Rattle.stride_cli.specs.Again.{IsRecorded}
+use Rattle.stride_cli.specs.Again.{AreRecorded, IsRecorded}
 use Rattle.stride_cli.specs.Answers.{Answer, AnswersInference, setting_of}
 use Rattle.stride_cli.specs.Bundles.{Nothing, RefusesEvents}
 use Rattle.stride_cli.specs.Inferring.{Circular, Diverging, Inference, IsInferredOf, Ordered, Unlinked}
+use Rattle.stride_cli.specs.Settings.{fuel}
 use Rattle.stride_cli.proofs.Inferences.{ring_before}
 
 -- what the laws say of recordings
 pub record Laws : Type 0 where
-  pub history : DrivenIsAHistory
-  pub followed : DrivenIsFollowed
   pub range : FollowedAreInRange
   pub events : RecordingsAreHistories
   pub linked : HistoriesAreLinked
   pub ordered : HistoriesAreOrdered
+
+some_fuel : 1 ≤ fuel
+some_fuel = omega arith
 
 -- threads that were followed, as what comes of following
 abbrev given : List Followed → Result (List Followed) Divergence
@@ -34,26 +35,34 @@ given all = Ok all
 given_same : (one other : List Followed) → given one ≡ given other → one ≡ other
 given_same one other e = cc
 
--- the events are those of the recording's history
-are_events : Laws → (p : Listing) (order : List ℕ) (traces : TraceLists) → IsRecorded p order traces → AreEventsOf (whole_run (setting_of p) order).steps traces
-are_events laws p order traces recorded =
-    let g : Setting = setting_of p in
+-- the threads follow the logs of a recording
+pub logs_follow : (p : Listing) (logs : List (List LogEntry)) (recorded : AreRecorded p logs) → follow_all p fuel logs ≡ given recorded.followed.followed
+logs_follow p logs recorded = sym (ap (follow_all p fuel) recorded.logs_are) ∙ recorded.followed.follows
+
+module _ (laws : Laws) (p : Listing) (valid : IsValid p) (logs : List (List LogEntry)) (logged : AreRecorded p logs) where
+  -- the events of the threads that follow the logs
+  abbrev events : TraceLists
+  events = traces_of p logged.followed.followed
+
+  -- they are those of the recording's history
+  are_events : AreEventsOf logged.steps events
+  are_events =
+      let range = laws.range p fuel logged.recording.logs logged.followed.followed valid some_fuel logged.followed.follows in
+      laws.events (setting_of p) logged.recording logged.steps logged.history logged.followed range
+
+  -- nothing that they come to is a refusal
+  pub unrefused : (inference : Inference) (answer : Answer) → IsInferredOf events inference → AnswersInference Nothing inference answer → ⊥
+  unrefused (Diverging divergence) answer is refused = is
+  unrefused (Unlinked refusal) answer is refused = laws.linked logged.steps events are_events refusal is.refused
+  unrefused (Circular cycle) answer is refused =
+      laws.ordered logged.steps events is.0 are_events is.1.0.linked cycle (ring_before events is.0 cycle is.1.1.round.goes_round)
+  unrefused (Ordered inferred) answer is refused = refused
+
+-- so the events of threads that were run again by the logs of a recording are not refused
+pub not_refused : Laws → (p : Listing) (logs : List (List LogEntry)) (traces : TraceLists) → IsRecorded p logs traces → (fault : LinkageFault) → RefusesEvents traces (refusals.NoLinkage fault) → ⊥
+not_refused laws p logs traces recorded fault is =
     let again = recorded.again in
-    let followed = laws.followed g order recorded.known in
-    let same : again.all ≡ followed.followed = given_same again.all followed.followed (sym again.follows ∙ followed.follows) in
-    let range = laws.range p g.fuel (driven g order).logs followed.followed again.valid again.some followed.follows in
-    let P : TraceLists → Type 0 = λ traces. AreEventsOf (whole_run g order).steps traces in
-    subst P (sym (again.traces_are ∙ ap (traces_of p) same)) (laws.events g (driven g order) (whole_run g order).steps (laws.history g order recorded.known) followed range)
-
--- nothing that they come to is a refusal
-by_inference : Laws → (p : Listing) (order : List ℕ) (traces : TraceLists) → IsRecorded p order traces → (inference : Inference) (answer : Answer) → IsInferredOf traces inference → AnswersInference Nothing inference answer → ⊥
-by_inference laws p order traces recorded (Diverging divergence) answer is refused = is
-by_inference laws p order traces recorded (Unlinked refusal) answer is refused =
-    laws.linked (whole_run (setting_of p) order).steps traces (are_events laws p order traces recorded) refusal is.refused
-by_inference laws p order traces recorded (Circular cycle) answer is refused =
-    laws.ordered (whole_run (setting_of p) order).steps traces is.0 (are_events laws p order traces recorded) is.1.0.linked cycle (ring_before traces is.0 cycle is.1.1.round.goes_round)
-by_inference laws p order traces recorded (Ordered inferred) answer is refused = refused
-
--- so its events are not refused
-pub not_refused : Laws → (p : Listing) (order : List ℕ) (traces : TraceLists) → IsRecorded p order traces → (fault : LinkageFault) → RefusesEvents traces (refusals.NoLinkage fault) → ⊥
-not_refused laws p order traces recorded fault is = by_inference laws p order traces recorded is.0 _ is.1.0 is.1.1
+    let logged = recorded.logged in
+    let same : again.all ≡ logged.followed.followed = given_same again.all logged.followed.followed (sym again.follows ∙ logs_follow p logs logged) in
+    let P : TraceLists → Type 0 = λ traces. IsInferredOf traces is.0 in
+    unrefused laws p again.valid logs logged is.0 _ (subst P (again.traces_are ∙ ap (traces_of p) same) is.1.0) is.1.1

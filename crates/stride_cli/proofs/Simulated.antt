@@ -4,6 +4,7 @@ use Rattle.stride_isa.specs.Listing.{Listing}
 use Rattle.stride_isa.specs.Validity.{IsValid}
 use Rattle.interleavings.specs.declared.driven.DriveError.{DriveError}
 use Rattle.interleavings.specs.declared.driven.DriveError.TheVariants as drives
+use Rattle.interleavings.specs.declared.event.LogEntry.{LogEntry}
 use Rattle.interleavings.specs.DrivenSeen.{IsStranger}
 use Rattle.interleavings.specs.Driving.{driven, stranger}
 use Rattle.interleavings.specs.Following.{Divergence, Followed, follow_all}
@@ -86,22 +87,22 @@ module _ (bytes : List ℕ) where
   drive_refused p order lent error same input is = drive_refused_by p lent error (subst (IsInput bytes p) (sym same) input) is
 
   -- the report of a recording is the answer
-  pub sim_done : (p : Listing) (order lent : List ℕ) (traces : TraceLists) (inferred : Inferred) (results : Results) (report : List ℕ) → lent ≡ order → IsInput bytes p order → IsRecorded p lent traces → IsInferredOf traces (Ordered inferred) → Plays p fuel inferred.schedule results
-      → report ≡ ((logs_section (driven (setting_of p) lent).logs ++ links_section inferred.links) ++ schedule_section inferred.schedule) ++ run_section results → AnswersInput Sim bytes (done report)
-  sim_done p order lent traces inferred results report same input recorded is plays put =
+  pub sim_done : (p : Listing) (order lent : List ℕ) (logs : List (List LogEntry)) (traces : TraceLists) (inferred : Inferred) (results : Results) (report : List ℕ) → lent ≡ order → IsInput bytes p order → stranger (length p.threads) lent ≡ None → logs ≡ (driven (setting_of p) lent).logs → IsRecorded p logs traces → IsInferredOf traces (Ordered inferred) → Plays p fuel inferred.schedule results
+      → report ≡ ((logs_section logs ++ links_section inferred.links) ++ schedule_section inferred.schedule) ++ run_section results → AnswersInput Sim bytes (done report)
+  sim_done p order lent logs traces inferred results report same input known logged recorded is plays put =
       let recording = driven (setting_of p) lent in
       let P : TraceLists → Type 0 = λ traces. IsInferredOf traces (Ordered inferred) in
       let Q : Result (List Followed) Divergence → Type 0 = λ r. IsInferredBy p r (Ordered inferred) in
       let R : Option ℕ → Type 0 = λ found. AnswersRecorded p found recording (done report) in
-      let ordered = subst Q (sym recorded.again.follows) (subst P recorded.again.traces_are is) in
-      let shown = put ∙ ap (λ (r : Results). ((logs_section recording.logs ++ links_section inferred.links) ++ schedule_section inferred.schedule) ++ run_section r) plays.shows in
+      let ordered = subst Q (sym recorded.again.follows ∙ ap (follow_all p fuel) logged) (subst P recorded.again.traces_are is) in
+      let shown = (put ∙ ap (λ all. ((logs_section all ++ links_section inferred.links) ++ schedule_section inferred.schedule) ++ run_section results) logged) ∙ ap (λ (r : Results). ((logs_section recording.logs ++ links_section inferred.links) ++ schedule_section inferred.schedule) ++ run_section r) plays.shows in
       let shows : report ≡ sim_report recording.logs inferred.links inferred.schedule plays.machine = shown ∙ regroup (logs_section recording.logs) (links_section inferred.links) (schedule_section inferred.schedule) (run_section (results_of p plays.machine)) in
       to_simulated p lent (done report) (subst (IsInput bytes p) (sym same) input)
-      (subst R (sym recorded.known) (record { inferred = inferred; ordered = ordered; machine = plays.machine; runs = plays.runs; shows = ap done shows }))
+      (subst R (sym known) (record { inferred = inferred; ordered = ordered; machine = plays.machine; runs = plays.runs; shows = ap done shows }))
 
   -- the share of a recording
-  pub sim_looks : (p : Listing) (order lent : List ℕ) (traces : TraceLists) → lent ≡ order → IsInput bytes p order → IsRecorded p lent traces → simulated_looks (order_of bytes) (spelled (program_part bytes)) ≡ printing_looks traces
-  sim_looks p order lent traces same input recorded =
+  pub sim_looks : (p : Listing) (order lent : List ℕ) (logs : List (List LogEntry)) (traces : TraceLists) → lent ≡ order → IsInput bytes p order → logs ≡ (driven (setting_of p) lent).logs → IsRecorded p logs traces → simulated_looks (order_of bytes) (spelled (program_part bytes)) ≡ printing_looks traces
+  sim_looks p order lent logs traces same input logged recorded =
       ap (λ (r : Result (List ℕ) LineFault). simulated_looks r (spelled (program_part bytes))) (input.ordered ∙ ap Ok (sym same))
       ∙ (ap (simulated_looks (Ok lent)) input.program
-      ∙ (ap (followed_looks printing_looks p) recorded.again.follows ∙ ap printing_looks (sym recorded.again.traces_are)))
+      ∙ (ap (followed_looks printing_looks p) (ap (follow_all p fuel) (sym logged) ∙ recorded.again.follows) ∙ ap printing_looks (sym recorded.again.traces_are)))

@@ -1,11 +1,12 @@
 -- Threads that were run again by logs. Only private clauses cite this module.
-use Rattle.std.specs.Prelude.{◌≡◌, ◌≤◌, ℕ, List, None, Ok, length}
+use Rattle.std.specs.Prelude.{◌≡◌, ◌≤◌, ℕ, List, Ok}
 use Rattle.stride_isa.specs.Limits.{fuel_limit}
 use Rattle.stride_isa.specs.Listing.{Listing}
 use Rattle.stride_isa.specs.Validity.{IsValid}
 use Rattle.interleavings.specs.declared.event.LogEntry.{LogEntry}
-use Rattle.interleavings.specs.Driving.{driven, stranger}
 use Rattle.interleavings.specs.Following.{Followed, follow_all}
+use Rattle.interleavings.specs.History.{Step}
+use Rattle.interleavings.specs.Recording.{IsFollowed, IsHistoryOf, IsRecording, Recording}
 use Rattle.interleavings.specs.TraceLists.{IsTraces, TraceLists}
 use Rattle.event_order.specs.Laws.{traces_of}
 use Rattle.stride_cli.specs.Answers.{setting_of}
@@ -32,7 +33,25 @@ pub record HasSchedule (p : Listing) (fuel : ℕ) (schedule : List ℕ) : Type 0
   pub again : HasRunAgain p fuel traces
   pub scheduled : SchedulesEvents traces schedule
 
--- the order names threads of the program alone, and the threads were run again by the logs of the recording that it gives
-pub record IsRecorded (p : Listing) (order : List ℕ) (traces : TraceLists) : Type 0 where
-  pub known : stranger (length p.threads) order ≡ None
-  pub again : IsRunAgain p fuel (driven (setting_of p) order).logs traces
+-- the logs are those of a recording of the program
+pub record IsLogged (p : Listing) (logs : List (List LogEntry)) : Type 0 where
+  pub recording : Recording
+  pub logs_are : recording.logs ≡ logs
+  pub recorded : IsRecording (setting_of p) recording
+
+-- the logs are those of what some steps left of the program, by the history of these steps
+pub record AreRecorded (p : Listing) (logs : List (List LogEntry)) : Type 0 where
+  pub recording : Recording
+  pub steps : List Step
+  pub logs_are : recording.logs ≡ logs
+  pub history : IsHistoryOf (setting_of p) recording steps
+  pub followed : IsFollowed (setting_of p) recording steps
+
+-- the threads were run again by such logs
+pub record IsRecorded (p : Listing) (logs : List (List LogEntry)) (traces : TraceLists) : Type 0 where
+  pub logged : AreRecorded p logs
+  pub again : IsRunAgain p fuel logs traces
+
+-- the threads were run again by the logs of some recording
+abbrev pub HasRecorded : Listing → TraceLists → Type 0
+HasRecorded p traces = (logs : List (List LogEntry)) × IsRecorded p logs traces

@@ -2,9 +2,14 @@ pub mod Again
 pub mod Answers
 pub mod Bundles
 pub mod Gives
+pub mod GivesLive
+pub mod Headline
 pub mod Inferring
 pub mod Inputs
 pub mod Laws
+pub mod LiveAnswers
+pub mod LiveLaws
+pub mod LiveLooks
 pub mod Looks
 pub mod Refusals
 pub mod Reports

@@ -5,23 +5,27 @@ use Rattle.stride_cli.specs.declared.status.Status.{Status}
 use Rattle.stride_cli.specs.declared.status.Status.TheVariants.{Diverges, Done, NoLinkage, NotEnabled, ReadFault, WriteFault, NoMemory}
 use Rattle.stride_cli.specs.declared.words.Command.{Command}
 use Rattle.stride_cli.specs.declared.words.Command.TheVariants.{Check, Follow, Infer, Replay, Show, Sim, Upgrade}
-use Rattle.stride_cli.specs.Answers.{IsAnswer, done, refused}
+use Rattle.stride_cli.specs.Answers.{Answer, IsAnswer, done, refused}
 use Rattle.stride_cli.specs.Statuses.{fault_seen}
 
--- the report of the answer, and what became of it
-abbrev pub Reported : List (List ℕ) → List ℕ → (List ℕ → Type 0) → Type 0
-Reported words bytes Put = (report : List ℕ) × (IsAnswer words bytes (done report) × Put report)
+-- the report of an answer, and what became of it
+abbrev pub ReportedBy : (Answer → Type 0) → (List ℕ → Type 0) → Type 0
+ReportedBy IsAnswered Put = (report : List ℕ) × (IsAnswered (done report) × Put report)
 
--- what a status tells of the answer, where the sink told first these bytes and then those: the answer is this very status;
--- where it is done, its whole report was put, and where that failed, a prefix of the report. A fault of reading and want
--- of memory tell nothing
+-- what a status tells of the answer, where these are the answers, and the sink told first these bytes and then those: the
+-- answer is this very status; where it is done, its whole report was put, and where that failed, a prefix of the report. A
+-- fault of reading and want of memory tell nothing
+abbrev pub TellsBy : (Answer → Type 0) → Option (List ℕ) → Option (List ℕ) → Status → Type 0
+TellsBy IsAnswered old new ReadFault = Unit {0}
+TellsBy IsAnswered old new NoMemory = Unit {0}
+TellsBy IsAnswered old new Done = ReportedBy IsAnswered (Adds old new)
+TellsBy IsAnswered old new WriteFault = ReportedBy IsAnswered (AddsFront old new)
+TellsBy IsAnswered old new (NoLinkage fault) = IsAnswered (refused (NoLinkage (fault_seen fault)))
+TellsBy IsAnswered old new status = IsAnswered (refused status)
+
+-- the same of the commands that start no thread
 abbrev pub Tells : List (List ℕ) → List ℕ → Option (List ℕ) → Option (List ℕ) → Status → Type 0
-Tells words bytes old new ReadFault = Unit {0}
-Tells words bytes old new NoMemory = Unit {0}
-Tells words bytes old new Done = Reported words bytes (Adds old new)
-Tells words bytes old new WriteFault = Reported words bytes (AddsFront old new)
-Tells words bytes old new (NoLinkage fault) = IsAnswer words bytes (refused (NoLinkage (fault_seen fault)))
-Tells words bytes old new status = IsAnswer words bytes (refused status)
+Tells words bytes old new status = TellsBy (IsAnswer words bytes) old new status
 
 -- a fact where the whole report was put
 abbrev pub OnDone : Status → Type 0 → Type 0

@@ -1,5 +1,6 @@
 //! Laws of answers, each as the contract of a function that does nothing.
 ghost use Rattle.stride_cli.specs.Laws.{AnAnswer, OneAnswer, ReplaysAreRuns, SimulationsAreRuns};
+ghost use Rattle.stride_cli.specs.LiveLaws.{BundlesAreReplayed};
 
 /// The words and the bytes of an input have an answer.
 pub fn an_answer()
@@ -45,4 +46,18 @@ pub fn simulations_are_runs()
 {
     interleavings::driven_is_followed();
     event_order::extensions_are_runs();
+}
+
+/// Whatever bytes `bundle` is done with are the bundle of a recording of the program that its input spells. `infer` is done with
+/// them, and `replay` with the run in which each thread makes exactly its recorded events, with its recorded output and end.
+pub fn bundles_are_replayed()
+    ensures { BundlesAreReplayed }
+{
+    stride_isa::one_verdict();
+    log_format::spelling_is_read();
+    event_order::followed_are_in_range();
+    history_laws::recordings_are_histories();
+    history_laws::histories_are_linked();
+    history_laws::histories_are_ordered();
+    history_laws::recordings_are_runs();
 }

@@ -15,13 +15,18 @@ mod laws;
 mod messages;
 mod offline_call;
 mod recorded;
+mod recording;
 mod refusal;
 mod replaying;
 mod reports;
 mod settings;
 mod status;
+mod stride_call;
 mod words;
 
-pub use laws::{an_answer, one_answer, replays_are_runs, simulations_are_runs};
+pub use laws::{
+    an_answer, bundles_are_replayed, one_answer, replays_are_runs, simulations_are_runs,
+};
 pub use offline_call::offline;
 pub use status::{LinkageFault, MemberFault, ProgramFault, Status};
+pub use stride_call::stride;

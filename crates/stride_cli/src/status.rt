@@ -122,7 +122,7 @@ impl fmt::Display for Status {
             Status::Done => write!(f, "done"),
             Status::Usage => write!(
                 f,
-                "usage: stride COMMAND < INPUT, with one COMMAND of check, follow, sim, show, upgrade, infer, replay"
+                "usage: stride COMMAND < INPUT, with one COMMAND of check, follow, sim, run, bundle, show, upgrade, infer, replay"
             ),
             Status::ReadFault => write!(
                 f,

@@ -1,6 +1,6 @@
 //! The words of the command line.
 ghost use Rattle.std.specs.Prelude.{◌≡◌, map};
-ghost use Rattle.stride_cli.specs.Words.{command_named, command_with_name};
+ghost use Rattle.stride_cli.specs.Words.{command_named, command_with_name, live_named, live_with_name};
 
 /// What the program can be told to do.
 #[derive(Clone, Copy, Debug, PartialEq, Eq)]
@@ -19,6 +19,15 @@ pub enum Command {
     Infer,
     /// Plays that order on the sequentially consistent machine.
     Replay,
+}
+
+/// What the program can be told to do by threads that run beside each other.
+#[derive(Clone, Copy, Debug, PartialEq, Eq)]
+pub enum Live {
+    /// Records a program, and replays the recording.
+    Run,
+    /// Records a program, and spells the bundle of the recording.
+    Bundle,
 }
 
 fn command_called(name: &str) -> Option<Command>
@@ -42,6 +51,26 @@ pub fn command_of(words: &[&str]) -> Option<Command>
 {
     match words {
         [name] => command_called(name),
+        _ => None,
+    }
+}
+
+fn live_called(name: &str) -> Option<Live>
+    ensures { result ≡ live_with_name name.now }
+{
+    match name {
+        "run" => Some(Live::Run),
+        "bundle" => Some(Live::Bundle),
+        _ => None,
+    }
+}
+
+/// The live command that the words name, or `None` where they name none.
+pub fn live_of(words: &[&str]) -> Option<Live>
+    ensures { result ≡ live_named (map (λ word. word.now) words.entry.now) }
+{
+    match words {
+        [name] => live_called(name),
         _ => None,
     }
 }

@@ -3,10 +3,13 @@ ghost use Rattle.std.specs.Prelude.{◌≡◌, ◌+◌, ◌≤◌, length, IfErr
 ghost use Rattle.stride_cli.specs.Gives.{Gives};
 ghost use Rattle.stride_cli.specs.Looks.{OnEarly, OnUnlinking, command_looks, greatest_looks};
 
+mod bundle;
 mod check;
 mod follow;
 mod infer;
+mod live;
 mod replay;
+mod run;
 mod show;
 mod sim;
 mod upgrade;
@@ -16,6 +19,7 @@ use crate::words::Command;
 use check::check_text;
 use follow::follow_schedule;
 use infer::infer_bundle;
+pub use live::live_report_of;
 use replay::replay_bundle;
 use show::show_bundle;
 use sim::simulate;

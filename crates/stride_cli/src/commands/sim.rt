@@ -32,9 +32,11 @@ pub fn simulate<L: Ledger>(
 {
     let input = read_input(alloc, bytes)?;
     let order = input.order.as_slice();
+    interleavings::driven_is_a_history();
+    interleavings::driven_is_followed();
     let driven = drive(alloc, &input.program, FUEL, PATIENCE, order)?;
-    let traces = rerun_recorded(alloc, &input.program, order, &driven.logs)?;
-    let inferred = order_recorded(alloc, &input.program, order, &traces, steps)?;
+    let traces = rerun_recorded(alloc, &input.program, &driven.logs)?;
+    let inferred = order_recorded(alloc, &input.program, &traces, steps)?;
     let schedule = inferred.schedule.as_slice();
     let played = replay_events(alloc, &input.program, FUEL, schedule)?;
     let mut report = List::new(alloc);

@@ -4,11 +4,9 @@ use Rattle.stride_cli.proofs.recorded.order_recorded.Goals as goal
 pub unreachable-requires : goal.unreachable-requires
 unreachable-requires g c =
     let laws : Laws = record {
-      history = c.driven_is_a_history.ensures;
-      followed = c.driven_is_followed.ensures;
       range = c.followed_are_in_range.ensures;
       events = c.recordings_are_histories.ensures;
       linked = c.histories_are_linked.ensures;
       ordered = c.histories_are_ordered.ensures;
     } in
-    not_refused laws c.args.program.now c.args.order.now c.args.traces.now c.requires _ (rw c.in-Err-NoLinkage.field-0-is at c.in-Err-NoLinkage.ensures.refused)
+    not_refused laws c.args.program.now c.requires.0 c.args.traces.now c.requires.1 _ (rw c.in-Err-NoLinkage.field-0-is at c.in-Err-NoLinkage.ensures.refused)

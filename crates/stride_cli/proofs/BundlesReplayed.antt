@@ -1,0 +1,140 @@
+-- What `bundle` is done with is replayed.
+use Rattle.std.proofs.Common.{◌≡◌, ◌∙◌, ℕ, ◌≤◌, Bool, true, false, List, Option, Some, None, Result, Ok, Err, refl, sym, ap, subst, arith, length, nat_lt, le-ltb}
+use Rattle.std.specs.Bool.{MatchBool}
+use Rattle.stride_base.specs.declared.limits.TheConstants.{INPUT_LIMIT}
+use Rattle.stride_isa.specs.Faults.{Fault, IsVerdict}
+use Rattle.stride_isa.specs.Laws.{OneVerdict}
+use Rattle.stride_isa.specs.Listing.{Listing}
+use Rattle.stride_isa.specs.Validity.{IsValid}
+use Rattle.assembler.specs.Programs.{LineFault, spelled}
+use Rattle.interleavings.specs.Following.{Divergence, Followed, follow_all}
+use Rattle.interleavings.specs.Recording.{Recording, IsRecording}
+use Rattle.event_order.specs.Laws.{traces_of}
+use Rattle.history_laws.specs.Laws.{SchedulesReplayRecordings}
+use Rattle.history_laws.specs.RecordedRuns.{IsScheduleOf}
+use Rattle.log_format.specs.Bundles.{Bundled}
+use Rattle.log_format.specs.Laws.{SpellingIsRead}
+use Rattle.log_format.specs.Reading.{reading, Refusal as FormatRefusal}
+use Rattle.log_format.specs.declared.version.Version.TheVariants.{Two}
+use Rattle.stride_cli.specs.declared.status.Status.{Status}
+use Rattle.stride_cli.specs.declared.status.Status.TheVariants.{Done, TooLong}
+use Rattle.stride_cli.specs.declared.words.Command.{Command}
+use Rattle.stride_cli.specs.declared.words.Command.TheVariants.{Infer, Replay}
+use Rattle.stride_cli.specs.declared.words.Live.{Live}
+use Rattle.stride_cli.specs.declared.words.Live.TheVariants.{Bundle}
+use Rattle.stride_cli.specs.Again.{AreRecorded}
+use Rattle.stride_cli.specs.Answers.{Answer, AnswersBundle, AnswersBy, AnswersInference, AnswersInput, AnswersLinks, AnswersLogs, AnswersProgram, AnswersRun, AnswersVerdict, circular, done, refused, refused_code, refused_text, setting_of, unlinked}
+use Rattle.stride_cli.specs.Bundles.{Nothing}
+use Rattle.stride_cli.specs.Inferring.{Circular, Diverging, Inference, Inferred, IsInferredBy, IsInferredOf, Ordered, Unlinked}
+use Rattle.stride_cli.specs.LiveAnswers.{AnswersLive, AnswersLiveBundle, AnswersLiveInput, AnswersNamed, bundle_of}
+use Rattle.stride_cli.specs.LiveLaws.{BundlesAreReplayed, HoldsProgram, HoldsRecording, IsReplayed}
+use Rattle.stride_cli.specs.Reports.{replay_report}
+use Rattle.stride_cli.specs.Settings.{fuel}
+use Rattle.stride_cli.proofs.Recordings.{Laws as Recorded, unrefused}
+
+-- what the laws say of verdicts, of bundles, and of recordings
+pub record Laws : Type 0 where
+  pub verdict : OneVerdict
+  pub read : SpellingIsRead
+  pub recorded : Recorded
+  pub replays : SchedulesReplayRecordings
+
+some_fuel : 1 ≤ fuel
+some_fuel = omega arith
+
+some_same : {X : Type 0} {x y : X} → Some x ≡ Some y → x ≡ y
+some_same e = cc
+
+-- a refusal is not done
+not_done : (status : Status) (report : List ℕ) → (status ≡ Done → ⊥) → done report ≡ refused status → ⊥
+not_done status report other is = other (let e = ap (λ (answer : Answer). answer.status) is in cc)
+
+same_report : (report other : List ℕ) → done report ≡ done other → report ≡ other
+same_report report other is = ap (λ (answer : Answer). answer.report) is
+
+module _ (laws : Laws) (p : Listing) (valid : IsValid p) (bytes : List ℕ) (is : AnswersLiveBundle p (done bytes)) where
+  abbrev bundle : Bundled
+  bundle = bundle_of p is.recording
+
+  -- the bytes read as the bundle
+  reads : reading bytes ≡ Ok bundle
+  reads = ap reading (same_report _ _ is.shows) ∙ laws.read Two bundle is.fits
+
+  logged : AreRecorded p is.recording.logs
+  logged = record { recording = is.recording; steps = is.recorded.steps; logs_are = refl; history = is.recorded.history; followed = is.recorded.followed }
+
+  abbrev followed : List Followed
+  followed = is.recorded.followed.followed
+
+  -- they are no longer than an input may be
+  within : nat_lt INPUT_LIMIT (length bytes) ≡ false
+  within =
+      let short = is.short in
+      let long = ap length (same_report _ _ is.shows) in
+      le-ltb (length bytes) INPUT_LIMIT (omega (arith, short, long))
+
+  module _ (Shows : Listing → Bundled → Inferred → Answer → Type 0) where
+    -- what is answered to links with a schedule
+    by_inference : (inference : Inference) (answer : Answer) → IsInferredOf (traces_of p followed) inference → AnswersInference (Shows p bundle) inference answer → (inferred : Inferred) × IsInferredOf (traces_of p followed) (Ordered inferred) × Shows p bundle inferred answer
+    by_inference (Diverging divergence) answer inferred shows = absurd inferred
+    by_inference (Unlinked refusal) answer inferred shows = absurd (unrefused laws.recorded p valid is.recording.logs logged (Unlinked refusal) answer inferred shows)
+    by_inference (Circular cycle) answer inferred shows = absurd (unrefused laws.recorded p valid is.recording.logs logged (Circular cycle) answer inferred shows)
+    by_inference (Ordered given) answer inferred shows = (given, inferred, shows)
+
+    by_logs : (answer : Answer) → AnswersLogs Shows bundle p answer → (inferred : Inferred) × IsInferredOf (traces_of p followed) (Ordered inferred) × Shows p bundle inferred answer
+    by_logs answer answered =
+        let Q : Result (List Followed) Divergence → Type 0 = λ r. IsInferredBy p r answered.0 in
+        by_inference answered.0 answer (subst Q is.recorded.followed.follows answered.1.0) answered.1.1
+
+    by_verdict : (verdict : Option Fault) (answer : Answer) → IsVerdict p verdict → AnswersVerdict bundle.text verdict (AnswersLogs Shows bundle p) answer → AnswersLogs Shows bundle p answer
+    by_verdict (Some fault) answer judged answered = let e = laws.verdict p None (Some fault) valid judged in absurd (cc)
+    by_verdict None answer judged answered = answered
+
+    by_bundle : (answer : Answer) → AnswersBundle Shows (reading bytes) answer → (inferred : Inferred) × IsInferredOf (traces_of p followed) (Ordered inferred) × Shows p bundle inferred answer
+    by_bundle answer answered =
+        let P : Result Bundled FormatRefusal → Type 0 = λ r. AnswersBundle Shows r answer in
+        let Q : Result Listing LineFault → Type 0 = λ s. AnswersProgram bundle.text s (AnswersLogs Shows bundle) answer in
+        let judged = subst Q is.text (subst P reads answered) in
+        by_logs answer (by_verdict judged.0 answer judged.1.0 judged.1.1)
+
+  -- the answer of a command to them
+  by_command : (command : Command) (words : List (List ℕ)) (named : Option Command) (answer : Answer) → named ≡ Some command → AnswersBy named bytes answer → AnswersInput command bytes answer
+  by_command command words named answer names answered =
+      let P : Option Command → Type 0 = λ c. AnswersBy c bytes answer in
+      let Q : Bool → Type 0 = λ b. MatchBool b (answer ≡ refused TooLong) (AnswersInput command bytes answer) in
+      subst Q within (subst P names answered)
+
+  replayed_so : (answer : Answer) → AnswersInput Replay bytes answer → IsReplayed p is.recording is.recorded answer
+  replayed_so answer answered =
+      let found = by_bundle AnswersRun answer answered in
+      let inferring : IsScheduleOf (setting_of p) is.recording found.0.schedule = record { all = followed; follows = is.recorded.followed.follows; links = found.0.links; whole = found.1.0; least = found.1.1 } in
+      let replay = laws.replays (setting_of p) is.recording found.0.schedule valid some_fuel is.recorded inferring in
+      let same = some_same (sym found.2.runs ∙ replay.1.runs) in
+      record { schedule = found.0.schedule; inferred = inferring; machine = replay.0; replay = replay.1; shows = found.2.shows ∙ ap (λ m. done (replay_report found.0.schedule m)) same }
+
+  holds_recording : HoldsRecording p bytes
+  holds_recording = record {
+    recording = is.recording;
+    recorded = is.recorded;
+    reads = reads;
+    inferred = λ words answer names answered. ap (λ (a : Answer). a.status) (by_bundle AnswersLinks answer (by_command Infer words _ answer names answered)).2;
+    replayed = λ words answer names answered. replayed_so answer (by_command Replay words _ answer names answered);
+  }
+
+module _ (laws : Laws) (input bytes : List ℕ) where
+  by_valid : (p : Listing) → spelled input ≡ Ok p → (verdict : Option Fault) → IsVerdict p verdict → AnswersVerdict input verdict (AnswersLive Bundle p) (done bytes) → HoldsProgram input bytes
+  by_valid p spells (Some fault) judged is = absurd (not_done _ bytes (λ e. cc) is)
+  by_valid p spells None judged is = record { program = p; spells = spells; valid = judged; holds = holds_recording laws p judged bytes is }
+
+  by_spelled : (s : Result Listing LineFault) → spelled input ≡ s → AnswersProgram input s (AnswersLive Bundle) (done bytes) → HoldsProgram input bytes
+  by_spelled (Err fault) spells is = absurd (not_done _ bytes (λ e. cc) is)
+  by_spelled (Ok p) spells is = by_valid p spells is.0 is.1.0 is.1.1
+
+  by_length : (too_long : Bool) → MatchBool too_long (done bytes ≡ refused TooLong) (AnswersLiveInput Bundle input (done bytes)) → HoldsProgram input bytes
+  by_length true is = absurd (not_done TooLong bytes (λ e. cc) is)
+  by_length false is = by_spelled (spelled input) refl is
+
+pub bundles_are_replayed : Laws → BundlesAreReplayed
+bundles_are_replayed laws = λ words input bytes named is.
+    let P : Option Live → Type 0 = λ live. AnswersNamed live words input (done bytes) in
+    by_length laws input bytes (nat_lt INPUT_LIMIT (length input)) (subst P named is)

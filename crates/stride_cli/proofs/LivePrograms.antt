@@ -1,0 +1,58 @@
+-- The answer of a live command to the program that its input spells, or its refusal.
+use Rattle.std.proofs.Common.{◌≡◌, ◌∙◌, ℕ, Bool, true, false, List, [], Option, Some, None, Result, Ok, Err, refl, sym, ap, subst, length, nat_lt}
+use Rattle.stride_isa.specs.Faults.{Fault, IsVerdict}
+use Rattle.stride_isa.specs.Laws.{OneVerdict}
+use Rattle.stride_isa.specs.Listing.{Listing}
+use Rattle.stride_isa.specs.Validity.{IsValid}
+use Rattle.assembler.specs.Programs.{LineFault, spelled}
+use Rattle.stride_cli.specs.declared.refusal.Refusal.{Refusal}
+use Rattle.stride_cli.specs.declared.refusal.Refusal.TheVariants as refusals
+use Rattle.stride_cli.specs.declared.status.ProgramFault.{ProgramFault}
+use Rattle.stride_cli.specs.declared.status.Status.TheVariants as statuses
+use Rattle.stride_cli.specs.declared.words.Live.{Live}
+use Rattle.stride_cli.specs.declared.words.Live.TheVariants.{Bundle, Run}
+use Rattle.stride_cli.specs.Answers.{Answer, AnswersProgram, AnswersVerdict, done, refused}
+use Rattle.stride_cli.specs.GivesLive.{RefusesLive}
+use Rattle.stride_cli.specs.Inputs.{Accepts}
+use Rattle.stride_cli.specs.LiveAnswers.{AnswersLive, AnswersLiveInput}
+use Rattle.stride_cli.proofs.Bundles.{only_programs, unaccepted}
+
+-- the refusal of a text
+text_refused : (live : Live) (bytes : List ℕ) (refusal : Refusal) → Accepts bytes (Err refusal) → RefusesLive live bytes refusal
+text_refused live bytes (refusals.Program fault) is = unaccepted bytes (spelled bytes) (AnswersLive live) (statuses.Program fault) (λ e. cc) (is (λ p. done []))
+text_refused live bytes (refusals.Bundle kind offset) is =
+    only_programs bytes (spelled bytes) (statuses.Bundle kind offset) (λ e. cc) (λ fault e. cc) (is (λ p. done []))
+text_refused live bytes (refusals.Diverges thread place) is =
+    only_programs bytes (spelled bytes) (statuses.Diverges thread place) (λ e. cc) (λ fault e. cc) (is (λ p. done []))
+text_refused live bytes (refusals.NoLinkage fault) is =
+    only_programs bytes (spelled bytes) (statuses.NoLinkage fault) (λ e. cc) (λ fault e. cc) (is (λ p. done []))
+text_refused live bytes (refusals.NotEnabled place fault) is =
+    only_programs bytes (spelled bytes) (statuses.NotEnabled place fault) (λ e. cc) (λ fault e. cc) (is (λ p. done []))
+text_refused live bytes refusals.NoMemory is = tt
+
+-- the same of a text that is lent
+pub lent_refused : (live : Live) (bytes lent : List ℕ) (refusal : Refusal) → lent ≡ bytes → Accepts lent (Err refusal) → RefusesLive live bytes refusal
+lent_refused live bytes lent refusal same is =
+    let P : List ℕ → Type 0 = λ text. Accepts text (Err refusal) in
+    text_refused live bytes refusal (subst P same is)
+
+-- what is answered to the valid program that the bytes spell
+pub to_program : (live : Live) (bytes : List ℕ) (p : Listing) (answer : Answer) → spelled bytes ≡ Ok p → IsValid p → AnswersLive live p answer → AnswersLiveInput live bytes answer
+to_program live bytes p answer spells valid is =
+    let Q : Result Listing LineFault → Type 0 = λ s. AnswersProgram bytes s (AnswersLive live) answer in
+    subst Q (sym spells) (None, (valid, is))
+
+-- a live command refuses no valid program
+not_refused : (live : Live) (p : Listing) (fault : ProgramFault) → AnswersLive live p (refused (statuses.Program fault)) → ⊥
+not_refused Run p fault is = let e = ap (λ (answer : Answer). answer.status) is.shows in cc
+not_refused Bundle p fault is = let e = ap (λ (answer : Answer). answer.status) is.shows in cc
+
+by_verdict : OneVerdict → (live : Live) (bytes : List ℕ) (p : Listing) (fault : ProgramFault) → IsValid p → (verdict : Option Fault) → IsVerdict p verdict → AnswersVerdict bytes verdict (AnswersLive live p) (refused (statuses.Program fault)) → ⊥
+by_verdict law live bytes p fault valid (Some first) judged is = let e = law p None (Some first) valid judged in cc
+by_verdict law live bytes p fault valid None judged is = not_refused live p fault is
+
+pub program_not_refused : OneVerdict → (live : Live) (bytes : List ℕ) (p : Listing) (fault : ProgramFault) → spelled bytes ≡ Ok p → IsValid p → AnswersLiveInput live bytes (refused (statuses.Program fault)) → ⊥
+program_not_refused law live bytes p fault spells valid is =
+    let Q : Result Listing LineFault → Type 0 = λ s. AnswersProgram bytes s (AnswersLive live) (refused (statuses.Program fault)) in
+    let answered = subst Q spells is in
+    by_verdict law live bytes p fault valid answered.0 answered.1.0 answered.1.1

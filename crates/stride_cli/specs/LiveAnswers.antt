@@ -1,0 +1,67 @@
+-- What the program answers to words and bytes where threads run beside each other: an answer for each recording that they can leave.
+use Rattle.std.specs.Prelude.{◌≡◌, ◌≤◌, ℕ, List, length, nat_lt, Option, Some, None, Ok}
+use Rattle.std.specs.Bool.{MatchBool}
+use Rattle.stride_base.specs.declared.limits.TheConstants.{INPUT_LIMIT}
+use Rattle.stride_isa.specs.Listing.{Listing}
+use Rattle.sc_machine.specs.Machine.{Machine}
+use Rattle.sc_machine.specs.Schedule.{replayed}
+use Rattle.interleavings.specs.Recording.{IsRecording, Recording}
+use Rattle.assembler.specs.Canonical.{canonical}
+use Rattle.assembler.specs.Programs.{spelled}
+use Rattle.log_format.specs.Bundles.{Bundled, IsInRange}
+use Rattle.log_format.specs.Spelling.{spelling}
+use Rattle.log_format.specs.declared.version.Version.TheVariants.{Two}
+use Rattle.history_laws.specs.RecordedRuns.{IsScheduleOf}
+use Rattle.stride_cli.specs.declared.status.Status.TheVariants.{TooLong}
+use Rattle.stride_cli.specs.declared.words.Live.{Live}
+use Rattle.stride_cli.specs.declared.words.Live.TheVariants.{Bundle, Run}
+use Rattle.stride_cli.specs.Answers.{Answer, AnswersProgram, IsAnswer, done, refused, setting_of}
+use Rattle.stride_cli.specs.Reports.{replay_report}
+use Rattle.stride_cli.specs.Settings.{fuel}
+use Rattle.stride_cli.specs.Words.{live_named}
+
+-- what `run` answers to a valid program: the run of a recording of it, by the schedule that is inferred from the recording's logs
+pub record AnswersLiveRun (p : Listing) (answer : Answer) : Type 0 where
+  pub recording : Recording
+  pub recorded : IsRecording (setting_of p) recording
+  pub schedule : List ℕ
+  pub inferred : IsScheduleOf (setting_of p) recording schedule
+  pub machine : Machine
+  pub runs : replayed p fuel schedule ≡ Some machine
+  pub shows : answer ≡ done (replay_report schedule machine)
+
+-- the bundle of a recording: the fuel, the program's canonical text and the recording's logs
+abbrev pub bundle_of : Listing → Recording → Bundled
+bundle_of p recording = record { fuel = fuel; text = canonical p; logs = recording.logs }
+
+-- what `bundle` answers to a valid program: the spelling in version 2 of the bundle of a recording of it. The version can hold the
+-- bundle, the spelling is no more than an input may have, and its text spells the program
+pub record AnswersLiveBundle (p : Listing) (answer : Answer) : Type 0 where
+  pub recording : Recording
+  pub recorded : IsRecording (setting_of p) recording
+  pub fits : IsInRange Two (bundle_of p recording)
+  pub short : length (spelling Two (bundle_of p recording)) ≤ INPUT_LIMIT
+  pub text : spelled (canonical p) ≡ Ok p
+  pub shows : answer ≡ done (spelling Two (bundle_of p recording))
+
+-- what a live command answers to a valid program
+abbrev pub AnswersLive : Live → Listing → Answer → Type 0
+AnswersLive Run p answer = AnswersLiveRun p answer
+AnswersLive Bundle p answer = AnswersLiveBundle p answer
+
+-- the answer of a live command to an input within the limit
+abbrev pub AnswersLiveInput : Live → List ℕ → Answer → Type 0
+AnswersLiveInput live bytes answer = AnswersProgram bytes (spelled bytes) (AnswersLive live) answer
+
+-- the answer of a live command to an input of any length
+abbrev pub AnswersLiveBytes : Live → List ℕ → Answer → Type 0
+AnswersLiveBytes live bytes answer = MatchBool (nat_lt INPUT_LIMIT (length bytes)) (answer ≡ refused TooLong) (AnswersLiveInput live bytes answer)
+
+-- the answer of the live command that the words name; words that name none are answered as without threads
+abbrev pub AnswersNamed : Option Live → List (List ℕ) → List ℕ → Answer → Type 0
+AnswersNamed None words bytes answer = IsAnswer words bytes answer
+AnswersNamed (Some live) words bytes answer = AnswersLiveBytes live bytes answer
+
+-- an answer to the words and the bytes of the input, where threads may run beside each other
+abbrev pub IsStrideAnswer : List (List ℕ) → List ℕ → Answer → Type 0
+IsStrideAnswer words bytes answer = AnswersNamed (live_named words) words bytes answer
