@@ -1,10 +1,10 @@
 -- What is kept of the next deed of each thread, as one deed more stands.
-use Rattle.std.proofs.Common.{◌≡◌, ℕ, ◌+◌, ◌<◌, List, [], ◌∷◌, ◌++◌, Option, Some, None, length, set, refl, sym, ◌∙◌, ap, subst, inl, inr, arith}
+use Rattle.std.proofs.Common.{◌≡◌, ℕ, ◌+◌, ◌<◌, ◌⊎◌, List, [], ◌∷◌, ◌++◌, Option, Some, None, length, set, refl, sym, ◌∙◌, ap, subst, inl, inr, arith}
 use Rattle.std.proofs.lemmas.Bool.{cases_eq, cases_lt}
 use Rattle.std.proofs.lemmas.List.{get_or_append_left, get_or_push, get_or-set_same, get_or-set_other, length-set}
 use Rattle.interleavings.specs.declared.traces.Place.{Place}
 use Rattle.event_order.specs.Deeds.{Needs}
-use Rattle.event_order.specs.Fronts.{AreNexts, IsNextAt, IsReady, NoneReady, done_of, next_of}
+use Rattle.event_order.specs.Fronts.{AreNexts, IsNextAt, IsReady, done_of, next_of}
 use Rattle.event_order.specs.Tables.{is_given}
 use Rattle.event_order.specs.declared.deed.Deed.{Deed}
 use Rattle.event_order.specs.declared.front.Next.{Next}
@@ -32,6 +32,13 @@ module _ (rows : List (List Deed)) where
   next_looser counts emptied at (Waits slot) (needs, inr none) = absurd cc
   next_looser counts emptied at (Waits slot) (needs, inl some) = (needs, inl some)
   next_looser counts emptied at Ended is = is
+
+  -- where one has got empty, a deed waits for that or for what it would wait for otherwise
+  pub next_either : (counts : Slot → ℕ) (emptied : Slot) (at : Place) (next : Next) → IsNextAt rows counts (Some emptied) at next → IsNextAt rows counts None at next ⊎ (next ≡ Waits emptied)
+  next_either counts emptied at (Ready deed) is = inl is
+  next_either counts emptied at (Waits slot) (needs, inl some) = inl (needs, inl some)
+  next_either counts emptied at (Waits slot) (needs, inr same) = inr (let equal : emptied ≡ slot = cc in ap (λ s. Waits s) (sym equal))
+  next_either counts emptied at Ended is = inl is
 
   -- and the other way round for a deed that doesn't wait for that slot
   pub next_tighter : (counts : Slot → ℕ) (emptied : Slot) (at : Place) (next : Next) → (next ≡ Waits emptied → ⊥) → IsNextAt rows counts (Some emptied) at next → IsNextAt rows counts None at next
@@ -88,12 +95,8 @@ module _ (rows : List (List Deed)) where
         subst P here (subst R (sym (get_or_push nexts next Ended n count)) is)
   ]
 
-  -- where no thread before this one is ready, none is known to be
-  pub none_known : (counts : Slot → ℕ) (done : List ℕ) (nexts : List Next) (thread : ℕ) → thread < length rows → AreNexts rows counts None done nexts → ((other : ℕ) → other < thread → IsReady rows counts (done_of done) other → ⊥) → NoneReady nexts thread
-  none_known counts done nexts thread there are none other deed small is =
-      let P : Next → Type 0 = λ next. IsNextAt rows counts None (record { thread = other; place = done_of done other }) next in
-      none other small (is_ready counts (done_of done) other deed (subst P is (are.each other (omega arith))))
-
-  -- and the other way round
-  pub none_before : (counts : Slot → ℕ) (done : List ℕ) (nexts : List Next) (from : ℕ) → AreNexts rows counts None done nexts → NoneReady nexts from → (other : ℕ) → other < from → other < length rows → IsReady rows counts (done_of done) other → ⊥
-  none_before counts done nexts from are none other small there = not_ready counts (done_of done) other (next_of nexts other) (λ deed is. none other deed small is) (are.each other there)
+  -- and a thread that is ready is known to be
+  pub known_ready : (counts : Slot → ℕ) (done : ℕ → ℕ) (thread : ℕ) (next : Next) → IsNextAt rows counts None (record { thread = thread; place = done thread }) next → IsReady rows counts done thread → (deed : Deed) × (next ≡ Ready deed)
+  known_ready counts done thread (Ready deed) is ready = (deed, refl)
+  known_ready counts done thread (Waits slot) is ready = absurd (not_ready counts done thread (Waits slot) (λ deed same. cc) is ready)
+  known_ready counts done thread Ended is ready = absurd (not_ready counts done thread Ended (λ deed same. cc) is ready)

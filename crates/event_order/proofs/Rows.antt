@@ -1,9 +1,9 @@
 -- Rows of what is kept for slots, with one more number or one more row, or with a value in place of another.
-use Rattle.std.proofs.Common.{◌≡◌, ◌≢◌, ℕ, zero, suc, ◌+◌, ◌-◌, ◌<◌, ◌==◌, ◌⊎◌, true, false, List, [], ◌∷◌, ◌++◌, Some, length, get_or, set, refl, sym, ◌∙◌, ap, inl, inr, arith, eq-eqb}
-use Rattle.std.specs.Prelude.{Vec}
+use Rattle.std.proofs.Common.{◌≡◌, ◌≢◌, ℕ, zero, suc, ◌+◌, ◌-◌, ◌<◌, ◌≤◌, ◌==◌, ◌⊎◌, true, false, List, [], ◌∷◌, ◌++◌, Some, length, get_or, set, refl, sym, ◌∙◌, ap, inl, inr, arith, eq-eqb}
+use Rattle.std.specs.Prelude.{Vec, replicate}
 use Rattle.std.specs.Vec.{with_item}
 use Rattle.std.proofs.lemmas.Bool.{true≢false, cases_eq, cases_lt, ne_eqb}
-use Rattle.std.proofs.lemmas.List.{get_or_past, get_or_read, get_or-map, map-set, get_or-set_same, get_or-set_other, length-map}
+use Rattle.std.proofs.lemmas.List.{get_or_append_left, get_or_past, get_or_push, get_or_read, length_push, get_or-map, map-set, get_or-set_same, get_or-set_other, length-map}
 use Rattle.event_order.specs.Tables.{counted, is_given, rows_of, same_slot}
 use Rattle.event_order.specs.declared.slot.Slot.{Slot}
 
@@ -147,3 +147,31 @@ count_added {Z} rows slot row grown count there read within same is = (value, λ
 
     written : rows_of (set rows slot.row (with_item grown slot.number (count + 1))) ≡ set (rows_of rows) slot.row (set grown.items slot.number (count + 1))
     written = map-set (λ r. r.items) rows slot.row (with_item grown slot.number (count + 1))
+
+-- a row of zeros more counts nothing
+pub zeros_row : (rows : List (List ℕ)) (count : ℕ) (slot : Slot) → counted (rows ++ replicate count 0 ∷ []) slot ≡ counted rows slot
+zeros_row rows count slot = elim (cases_lt slot.row (length rows)) [
+  | inl before ↦ ap (λ row. get_or row slot.number 0) (get_or_append_left rows (replicate count 0 ∷ []) [] slot.row before)
+  | inr after ↦ elim (cases_eq slot.row (length rows)) [
+    | inl same ↦
+        ap (λ row. get_or row slot.number 0) (get_or_push rows (replicate count 0) [] slot.row (sym same))
+        ∙ (zeros_read count slot.number ∙ sym (ap (λ row. get_or row slot.number 0) (get_or_past rows slot.row [] after)))
+    | inr apart ↦
+        ap (λ row. get_or row slot.number 0) (get_or_past (rows ++ replicate count 0 ∷ []) slot.row [] (past after apart))
+        ∙ sym (ap (λ row. get_or row slot.number 0) (get_or_past rows slot.row [] after))
+  ]
+]
+  where
+    zero_row : ℕ → List ℕ
+    zero_row n = replicate n 0
+
+    zeros_read : (n i : ℕ) → get_or (zero_row n) i 0 ≡ zero
+    zeros_read zero i = refl
+    zeros_read (suc n) zero = refl
+    zeros_read (suc n) (suc i) = zeros_read n i
+
+    past : length rows ≤ slot.row → (slot.row ≡ length rows → ⊥) → length (rows ++ replicate count 0 ∷ []) ≤ slot.row
+    past after apart = elim (cases_lt (length rows) slot.row) [
+      | inl less ↦ let more = length_push rows (replicate count 0) in omega arith
+      | inr equal ↦ absurd (apart (omega arith))
+    ]

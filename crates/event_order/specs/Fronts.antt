@@ -12,9 +12,9 @@ use Rattle.event_order.specs.declared.deed.Deed.{Deed}
 use Rattle.event_order.specs.declared.front.Next.{Next}
 use Rattle.event_order.specs.declared.front.Next.TheVariants.{Ready, Waits, Ended}
 use Rattle.event_order.specs.declared.front.ReadyThread.{ReadyThread}
-use Rattle.event_order.specs.declared.front.Waiters.{Waiters}
-use Rattle.event_order.specs.declared.front.Waiters.TheVariants.{Nobody, One, Many}
 use Rattle.event_order.specs.declared.slot.Slot.{Slot}
+use Rattle.event_order.specs.declared.thread_set.ThreadSet.{ThreadSet}
+use Rattle.event_order.specs.ThreadSets.{Has, everyone}
 
 -- how many deeds of a thread stand
 abbrev pub done_of : List ℕ → ℕ → ℕ
@@ -79,23 +79,18 @@ pub record AreNexts (rows : List (List Deed)) (counts : Slot → ℕ) (emptied :
   pub count : length nexts ≡ length rows
   pub each : (thread : ℕ) → thread < length rows → IsNextAt rows counts emptied (record { thread = thread; place = done_of done thread }) (next_of nexts thread)
 
--- the thread is one of those that may wait
-abbrev pub MayWait : Waiters → ℕ → Type 0
-MayWait Nobody other = ⊥
-MayWait (One thread) other = other ≡ thread
-MayWait Many other = Unit {0}
-
--- which threads may wait for a slot
-abbrev pub waiters_of : List (List Waiters) → Slot → Waiters
-waiters_of waiters slot = slice_index_or (slice_index_or waiters slot.row []) slot.number Many
+-- the threads that may wait for a slot: any where nothing is kept of it
+abbrev pub waiters_of : List (List ThreadSet) → Slot → ThreadSet
+waiters_of waiters slot = slice_index_or (slice_index_or waiters slot.row []) slot.number everyone
 
 -- each thread that waits for a slot is one of those that may
-abbrev pub AreWaiters : List Next → List (List Waiters) → Type 0
-AreWaiters nexts waiters = (thread : ℕ) (slot : Slot) → next_of nexts thread ≡ Waits slot → MayWait (waiters_of waiters slot) thread
+abbrev pub AreWaiters : List Next → List (List ThreadSet) → Type 0
+AreWaiters nexts waiters = (thread : ℕ) (slot : Slot) → next_of nexts thread ≡ Waits slot → Has (waiters_of waiters slot) thread
 
--- none of the threads before this one is known to be ready
-abbrev pub NoneReady : List Next → ℕ → Type 0
-NoneReady nexts from = (other : ℕ) (deed : Deed) → other < from → next_of nexts other ≡ Ready deed → ⊥
+-- the set has the threads whose next deed waits for nothing
+pub record AreReady (nexts : List Next) (set : ThreadSet) : Type 0 where
+  pub has : (thread : ℕ) (deed : Deed) → next_of nexts thread ≡ Ready deed → Has set thread
+  pub only : (thread : ℕ) → Has set thread → (deed : Deed) × (next_of nexts thread ≡ Ready deed)
 
 -- one deed more of the thread stands
 pub record IsRaised (old : ℕ → ℕ) (thread : ℕ) (new : ℕ → ℕ) : Type 0 where

@@ -10,3 +10,4 @@ pub mod Laws
 pub mod Least
 pub mod Sums
 pub mod Tables
+pub mod ThreadSets

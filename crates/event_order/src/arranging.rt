@@ -65,3 +65,21 @@ pub fn arrange<L: Ledger>(
     let deeds = Deeds::of(alloc, traces, links, steps)?;
     arrange_deeds(alloc, &deeds)
 }
+
+/// The same, where the events and their links are not wanted afterwards: they are let go before the order is looked for, since
+/// both want much memory.
+pub fn arrange_owned<L: Ledger>(
+    alloc: Global,
+    traces: Traces,
+    links: Links,
+    steps: &mut Steps<L>,
+) -> Result<List<u8>, OrderError>
+    requires linked { IsLinked traces links }
+    ensures answer { IsAnswer traces links result }
+    ensures looks { steps.new ≤ steps.old + most_looks traces }
+{
+    let deeds = Deeds::of(alloc, &traces, &links, steps)?;
+    drop(links);
+    drop(traces);
+    arrange_deeds(alloc, &deeds)
+}

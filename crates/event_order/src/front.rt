@@ -2,17 +2,17 @@
 //! for.
 ghost use Rattle.std.specs.Prelude.{◌≡◌, ℕ, ◌+◌, ◌-◌, ◌*◌, ◌<◌, ◌≤◌, ◌↔◌, length, slice_set, IfOk, IsTrue, OnOk, Some as Found, None as Nothing};
 ghost use Rattle.event_order.specs.Deeds.{deed_at, size, Needs};
-ghost use Rattle.event_order.specs.Fronts.{done_of, none_done, next_of, tallied, waiters_of, waiting as waits_of, AreNexts, AreWaiters, IsFirstReady, IsFront, IsNextAt, IsRaised, MayWait, NoneReady};
+ghost use Rattle.event_order.specs.Fronts.{done_of, next_of, none_done, tallied, waiters_of, waiting as waits_of, AreNexts, AreReady, AreWaiters, IsFirstReady, IsFront, IsNextAt, IsRaised};
 ghost use Rattle.event_order.specs.Sums.{upto};
 ghost use Rattle.event_order.specs.Tables.{counted, rows_of};
-ghost use Rattle.event_order.specs.declared.deed.Deed.{Deed as Done};
-ghost use Rattle.event_order.specs.declared.front.Next.{Next as Known};
+ghost use Rattle.event_order.specs.ThreadSets.{Has};
 ghost use Rattle.event_order.specs.declared.slot.Slot.{Slot as Numbered};
 
 use crate::deed::Deed;
 use crate::deeds::Deeds;
 use crate::slot::Slot;
 use crate::table::Counts;
+use crate::thread_set::ThreadSet;
 use interleavings::Place;
 use std::alloc::Global;
 use stride_base::NoMemory;
@@ -40,39 +40,6 @@ impl Next {
     }
 }
 
-/// Which threads may wait for a slot. Others don't.
-#[derive(Clone, Copy)]
-pub(crate) enum Waiters {
-    Nobody,
-    One { thread: u8 },
-    Many,
-}
-
-// There are as many as there are numbers in the rows of slots.
-const _: () = prove!(size_of::<Waiters>() == 2);
-
-impl Waiters {
-    fn of(thread: u32) -> Waiters
-        ensures { MayWait result thread }
-    {
-        match u8::try_from(thread) {
-            Ok(thread) => Waiters::One { thread },
-            Err(_) => Waiters::Many,
-        }
-    }
-
-    fn with(self, thread: u32) -> Waiters
-        ensures kept { (other : ℕ) → MayWait self other → MayWait result other }
-        ensures there { MayWait result thread }
-    {
-        match self {
-            Waiters::Nobody => Waiters::of(thread),
-            Waiters::One { thread: known } if u32::from(known) == thread => self,
-            Waiters::One { .. } | Waiters::Many => Waiters::Many,
-        }
-    }
-}
-
 /// A thread whose next deed waits for nothing, and that deed.
 #[derive(Clone, Copy)]
 pub(crate) struct ReadyThread {
@@ -81,15 +48,15 @@ pub(crate) struct ReadyThread {
 }
 
 /// How many deeds of each thread stand, of the others how many fill each slot, what is known of the next deed of each thread,
-/// which threads may wait for each slot, and a thread before which none is ready. Only a thread whose deed comes to stand, or that waits for a slot which has got
-/// empty by that, is looked at again.
+/// which threads may wait for each slot, and which are ready. Only a thread whose deed comes to stand, or that waits for a slot
+/// which has got empty by that, is looked at again.
 #[derive(Drop)]
 pub(crate) struct Front {
     pub(crate) waiting: Counts,
     pub(crate) done: Vec<u32>,
     pub(crate) next: Vec<Next>,
-    pub(crate) waiters: Vec<Vec<Waiters>>,
-    pub(crate) from: u32,
+    pub(crate) waiters: Vec<Vec<ThreadSet>>,
+    pub(crate) ready: ThreadSet,
 }
 
 /// How many deeds of a thread are tallied before those of the next thread. Those that many threads make at about the same time
@@ -135,12 +102,30 @@ fn tally_burst(
     Ok(())
 }
 
+// How many rows of slots there can be: three for each number of an owner.
+const ROWS: usize = 768;
+
+// How many numbers the row of each slot has to have room for, so that it does not grow while slots are counted.
+fn row_lengths(alloc: Global, deeds: &Deeds) -> Result<Vec<u32>, NoMemory> {
+    let mut lengths: Vec<u32> = vec![in alloc; 0; ROWS]?;
+    for thread in 0..deeds.threads() {
+        for place in 0..deeds.count(thread) {
+            if let Some(slot) = deeds.gives(Place { thread, place }) {
+                if let Some(length) = lengths.get_mut(slot.row as usize) {
+                    *length = slot.number.saturating_add(1).max(*length);
+                }
+            }
+        }
+    }
+    Ok(lengths)
+}
+
 // Counts the slots that deeds fill.
 fn tally(alloc: Global, deeds: &Deeds) -> Result<Counts, NoMemory>
     ensures { IfOk result (λ table. (slot : Numbered) → counted (rows_of table.rows.items) slot ≡ waits_of deeds.now none_done slot) }
 {
     let longest = deeds.longest();
-    let mut table = Counts::new(alloc);
+    let mut table = Counts::with_room(alloc, &row_lengths(alloc, deeds)?)?;
     let mut from = 0;
     while from < longest {
         let to = from + BURST;
@@ -207,7 +192,7 @@ fn judge(waiting: &Counts, deeds: &Deeds, at: Place) -> Next
 
 fn first_nexts(
     alloc: Global,
-    waiters: &mut Vec<Vec<Waiters>>,
+    waiters: &mut Vec<Vec<ThreadSet>>,
     waiting: &Counts,
     deeds: &Deeds,
     done: &[u32],
@@ -226,31 +211,46 @@ fn first_nexts(
     Ok(next)
 }
 
+// The threads whose next deed waits for nothing.
+fn ready_of(next: &[Next]) -> ThreadSet
+    requires { length next.now ≤ THREAD_LIMIT }
+    ensures { AreReady next.now result }
+{
+    let mut ready = ThreadSet::none();
+    for thread in 0..next.len() as u32 {
+        if let Next::Ready { .. } = next[thread as usize] {
+            ready = ready.with(thread);
+        }
+    }
+    ready
+}
+
 // Room for the waiters of each slot that is counted.
-fn no_waiters(alloc: Global, waiting: &Counts) -> Result<Vec<Vec<Waiters>>, NoMemory> {
+fn no_waiters(alloc: Global, waiting: &Counts) -> Result<Vec<Vec<ThreadSet>>, NoMemory> {
     let mut waiters = Vec::with_capacity(alloc, waiting.rows.len())?;
     for row in &waiting.rows {
-        waiters.push(vec![in alloc; Waiters::Nobody; row.len()]?)?;
+        waiters.push(vec![in alloc; ThreadSet::none(); row.len()]?)?;
     }
     Ok(waiters)
 }
 
-fn waiters_at(waiters: &[Vec<Waiters>], slot: Slot) -> Waiters
+fn waiters_at(waiters: &[Vec<ThreadSet>], slot: Slot) -> ThreadSet
     ensures { result ≡ waiters_of (rows_of waiters.now) slot }
 {
     match waiters.get(slot.row as usize) {
         Some(row) => row
             .get(slot.number as usize)
             .copied()
-            .unwrap_or(Waiters::Many),
-        None => Waiters::Many,
+            .unwrap_or(ThreadSet::all()),
+        None => ThreadSet::all(),
     }
 }
 
 // Keeps that this thread may wait for the slot.
-fn note_slot(waiters: &mut Vec<Vec<Waiters>>, thread: u32, slot: Slot)
-    ensures kept { (at : Numbered) (other : ℕ) → MayWait (waiters_of (rows_of waiters.old.items) at) other → MayWait (waiters_of (rows_of waiters.new.items) at) other }
-    ensures noted { MayWait (waiters_of (rows_of waiters.new.items) slot) thread }
+fn note_slot(waiters: &mut Vec<Vec<ThreadSet>>, thread: u32, slot: Slot)
+    requires { thread < THREAD_LIMIT }
+    ensures kept { (at : Numbered) (other : ℕ) → Has (waiters_of (rows_of waiters.old.items) at) other → Has (waiters_of (rows_of waiters.new.items) at) other }
+    ensures noted { Has (waiters_of (rows_of waiters.new.items) slot) thread }
 {
     if (slot.row as usize) < waiters.len() {
         let row = &mut waiters[slot.row as usize];
@@ -262,122 +262,79 @@ fn note_slot(waiters: &mut Vec<Vec<Waiters>>, thread: u32, slot: Slot)
 }
 
 // Keeps that this thread may wait for what its next deed waits for.
-fn note(waiters: &mut Vec<Vec<Waiters>>, thread: u32, next: Next)
-    ensures kept { (at : Numbered) (other : ℕ) → MayWait (waiters_of (rows_of waiters.old.items) at) other → MayWait (waiters_of (rows_of waiters.new.items) at) other }
-    ensures noted { (slot : Numbered) → next ≡ Next.Waits slot → MayWait (waiters_of (rows_of waiters.new.items) slot) thread }
+fn note(waiters: &mut Vec<Vec<ThreadSet>>, thread: u32, next: Next)
+    requires { thread < THREAD_LIMIT }
+    ensures kept { (at : Numbered) (other : ℕ) → Has (waiters_of (rows_of waiters.old.items) at) other → Has (waiters_of (rows_of waiters.new.items) at) other }
+    ensures noted { (slot : Numbered) → next ≡ Next.Waits slot → Has (waiters_of (rows_of waiters.new.items) slot) thread }
 {
     if let Next::Waits { slot } = next {
         note_slot(waiters, thread, slot);
     }
 }
 
-// What the next deed of a thread waits for, where this was known before a slot got empty.
-fn renewed(known: Next, waiting: &Counts, deeds: &Deeds, at: Place, emptied: Slot) -> Next
-    ensures { IsNextAt deeds.now (counted (rows_of waiting.now.rows.items)) (Found emptied) at known → IsNextAt deeds.now (counted (rows_of waiting.now.rows.items)) Nothing at result }
-{
-    if known.waits_for(emptied) {
-        judge(waiting, deeds, at)
-    } else {
-        known
-    }
-}
-
-// A thread before which none is ready, where this thread maybe is by now.
-fn lowest(from: u32, thread: u32, now: Next) -> u32
-    ensures low { result ≤ from }
-    ensures ready { (deed : Done) → now ≡ Next.Ready deed → result ≤ thread }
-{
-    match now {
-        Next::Ready { .. } if thread < from => thread,
-        Next::Ready { .. } | Next::Waits { .. } | Next::Ended => from,
-    }
-}
-
-// Looks again at all threads.
-fn wake_all(
+// Keeps what the next deed of a thread waits for. The answer is the threads that are ready by then.
+fn keep(
     next: &mut Vec<Next>,
-    waiters: &mut Vec<Vec<Waiters>>,
-    waiting: &Counts,
-    deeds: &Deeds,
-    done: &[u32],
-    emptied: Slot,
-    from: u32,
-) -> u32
-    requires threads { length done.now ≡ length deeds.now }
-    requires nexts { AreNexts deeds.now (counted (rows_of waiting.now.rows.items)) (Found emptied) done.now next.old.items }
+    waiters: &mut Vec<Vec<ThreadSet>>,
+    ready: ThreadSet,
+    thread: u32,
+    now: Next,
+) -> ThreadSet
+    requires there { thread < length next.old.items }
+    requires few { thread < THREAD_LIMIT }
     requires waiters { AreWaiters next.old.items (rows_of waiters.old.items) }
-    requires low { NoneReady next.old.items from }
-    ensures nexts { AreNexts deeds.now (counted (rows_of waiting.now.rows.items)) Nothing done.now next.new.items }
+    requires ready { AreReady next.old.items ready }
+    ensures next { next.new.items ≡ slice_set next.old.items thread now }
     ensures waiters { AreWaiters next.new.items (rows_of waiters.new.items) }
-    ensures low { NoneReady next.new.items result }
+    ensures ready { AreReady next.new.items result }
 {
-    let mut from = from;
-    for thread in 0..deeds.threads() {
-        let place = done[thread as usize];
-        let known = next[thread as usize];
-        let now = renewed(known, waiting, deeds, Place { thread, place }, emptied);
-        next[thread as usize] = now;
-        note(waiters, thread, now);
-        from = lowest(from, thread, now);
-    }
-    from
-}
-
-// Looks again at the only thread that may wait for the slot.
-fn wake_one(
-    next: &mut Vec<Next>,
-    waiters: &mut Vec<Vec<Waiters>>,
-    waiting: &Counts,
-    deeds: &Deeds,
-    at: Place,
-    emptied: Slot,
-    from: u32,
-) -> u32
-    requires there { at.thread < length next.old.items }
-    requires waiters { AreWaiters next.old.items (rows_of waiters.old.items) }
-    requires low { NoneReady next.old.items from }
-    ensures next { (now : Known) × (next.new.items ≡ slice_set next.old.items at.thread now) × (IsNextAt deeds.now (counted (rows_of waiting.now.rows.items)) (Found emptied) at (next_of next.old.items at.thread) → IsNextAt deeds.now (counted (rows_of waiting.now.rows.items)) Nothing at now) }
-    ensures waiters { AreWaiters next.new.items (rows_of waiters.new.items) }
-    ensures low { NoneReady next.new.items result }
-{
-    let thread = at.thread;
-    let known = next[thread as usize];
-    let now = renewed(known, waiting, deeds, at, emptied);
     next[thread as usize] = now;
     note(waiters, thread, now);
-    lowest(from, thread, now)
+    match now {
+        Next::Ready { .. } => ready.with(thread),
+        Next::Waits { .. } | Next::Ended => ready.without(thread),
+    }
+}
+
+// Whether the next deed of a thread waits for the slot.
+fn waits_at(next: &[Next], thread: u32, emptied: Slot) -> bool
+    ensures { IsTrue result ↔ (next_of next.now thread ≡ Next.Waits emptied) }
+{
+    match next.get(thread as usize) {
+        Some(known) => known.waits_for(emptied),
+        None => false,
+    }
 }
 
 // Looks again at the threads that wait for a slot which is empty by now.
 fn wake(
     next: &mut Vec<Next>,
-    waiters: &mut Vec<Vec<Waiters>>,
+    waiters: &mut Vec<Vec<ThreadSet>>,
     waiting: &Counts,
     deeds: &Deeds,
     done: &[u32],
     emptied: Slot,
-    from: u32,
-) -> u32
+    ready: ThreadSet,
+) -> ThreadSet
     requires threads { length done.now ≡ length deeds.now }
     requires nexts { AreNexts deeds.now (counted (rows_of waiting.now.rows.items)) (Found emptied) done.now next.old.items }
     requires waiters { AreWaiters next.old.items (rows_of waiters.old.items) }
-    requires low { NoneReady next.old.items from }
+    requires ready { AreReady next.old.items ready }
     ensures nexts { AreNexts deeds.now (counted (rows_of waiting.now.rows.items)) Nothing done.now next.new.items }
     ensures waiters { AreWaiters next.new.items (rows_of waiters.new.items) }
-    ensures low { NoneReady next.new.items result }
+    ensures ready { AreReady next.new.items result }
 {
-    match waiters_at(waiters, emptied) {
-        Waiters::Nobody => from,
-        Waiters::One { thread } if u32::from(thread) < deeds.threads() => {
-            let thread = u32::from(thread);
+    let mut ready = ready;
+    let mut left = waiters_at(waiters, emptied);
+    while let Some(thread) = left.first() {
+        left = left.without(thread);
+        if waits_at(next, thread, emptied) {
             let place = done[thread as usize];
-            let at = Place { thread, place };
-            wake_one(next, waiters, waiting, deeds, at, emptied, from)
-        }
-        Waiters::One { .. } | Waiters::Many => {
-            wake_all(next, waiters, waiting, deeds, done, emptied, from)
+            let now = judge(waiting, deeds, Place { thread, place });
+            ready = keep(next, waiters, ready, thread, now);
         }
     }
+    ready
 }
 
 impl Front {
@@ -386,7 +343,7 @@ impl Front {
         ensures front { IfOk result (λ front. IsFront deeds.now (counted (rows_of front.waiting.rows.items)) front.done.items) }
         ensures nexts { IfOk result (λ front. AreNexts deeds.now (counted (rows_of front.waiting.rows.items)) Nothing front.done.items front.next.items) }
         ensures waiters { IfOk result (λ front. AreWaiters front.next.items (rows_of front.waiters.items)) }
-        ensures low { IfOk result (λ front. NoneReady front.next.items front.from) }
+        ensures ready { IfOk result (λ front. AreReady front.next.items front.ready) }
         ensures none { IfOk result (λ front. (thread : ℕ) → done_of front.done.items thread ≡ 0) }
         ensures few { (thread : ℕ) → size deeds.now thread ≤ FUEL_LIMIT }
         ensures small { length deeds.now ≤ THREAD_LIMIT }
@@ -396,27 +353,27 @@ impl Front {
         let done = zeros(alloc, threads)?;
         let mut waiters = no_waiters(alloc, &waiting)?;
         let next = first_nexts(alloc, &mut waiters, &waiting, deeds, &done)?;
+        let ready = ready_of(&next);
         Ok(Front {
             waiting,
             done,
             next,
             waiters,
-            from: 0,
+            ready,
         })
     }
 
     /// The first thread whose next deed waits for nothing.
     pub(crate) fn first_ready(&self, deeds: &Deeds) -> Option<ReadyThread>
         requires nexts { AreNexts deeds.now (counted (rows_of self.now.waiting.rows.items)) Nothing self.now.done.items self.now.next.items }
-        requires low { NoneReady self.now.next.items self.now.from }
+        requires ready { AreReady self.now.next.items self.now.ready }
         ensures { IsFirstReady deeds.now (counted (rows_of self.now.waiting.rows.items)) (done_of self.now.done.items) result }
     {
-        for thread in self.from..deeds.threads() {
-            if let Next::Ready { deed } = self.next[thread as usize] {
-                return Some(ReadyThread { thread, deed });
-            }
+        let thread = self.ready.first()?;
+        match self.next[thread as usize] {
+            Next::Ready { deed } => Some(ReadyThread { thread, deed }),
+            Next::Waits { .. } | Next::Ended => unreachable!(),
         }
-        None
     }
 
     /// Lets the next deed of a thread stand.
@@ -424,13 +381,14 @@ impl Front {
         requires front { IsFront deeds.now (counted (rows_of self.old.waiting.rows.items)) self.old.done.items }
         requires nexts { AreNexts deeds.now (counted (rows_of self.old.waiting.rows.items)) Nothing self.old.done.items self.old.next.items }
         requires waiters { AreWaiters self.old.next.items (rows_of self.old.waiters.items) }
-        requires low { NoneReady self.old.next.items ready.thread }
+        requires ready { AreReady self.old.next.items self.old.ready }
         requires deed { deed_at deeds.now (record { thread = ready.thread; place = done_of self.old.done.items ready.thread }) ≡ Found ready.deed }
         requires few { size deeds.now ready.thread ≤ FUEL_LIMIT }
+        requires small { length deeds.now ≤ THREAD_LIMIT }
         ensures front { IsFront deeds.now (counted (rows_of self.new.waiting.rows.items)) self.new.done.items }
         ensures nexts { AreNexts deeds.now (counted (rows_of self.new.waiting.rows.items)) Nothing self.new.done.items self.new.next.items }
         ensures waiters { AreWaiters self.new.next.items (rows_of self.new.waiters.items) }
-        ensures low { NoneReady self.new.next.items self.new.from }
+        ensures ready { AreReady self.new.next.items self.new.ready }
         ensures raised { IsRaised (done_of self.old.done.items) ready.thread (done_of self.new.done.items) }
     {
         let thread = ready.thread;
@@ -438,18 +396,16 @@ impl Front {
         let place = self.done[thread as usize] + 1;
         self.done[thread as usize] = place;
         let now = judge(&self.waiting, deeds, Place { thread, place });
-        self.next[thread as usize] = now;
-        note(&mut self.waiters, thread, now);
-        self.from = thread;
+        self.ready = keep(&mut self.next, &mut self.waiters, self.ready, thread, now);
         if let Some(slot) = emptied {
-            self.from = wake(
+            self.ready = wake(
                 &mut self.next,
                 &mut self.waiters,
                 &self.waiting,
                 deeds,
                 &self.done,
                 slot,
-                thread,
+                self.ready,
             );
         }
     }

@@ -19,10 +19,11 @@ mod slot;
 mod table;
 #[cfg(test)]
 mod tests;
+mod thread_set;
 mod turning;
 mod walking;
 
-pub use arranging::arrange;
+pub use arranging::{arrange, arrange_owned};
 pub use laws::{
     cycles_exclude, extensions_are_runs, extensions_are_whole, followed_are_in_range,
     followed_is_told, least_or_cycle, one_cycle, one_least,

@@ -1,5 +1,5 @@
 //! `Table`: what is kept for slots. `Counts`: how often slots are counted.
-ghost use Rattle.std.specs.Prelude.{◌≡◌, ℕ, ◌+◌, ◌<◌, ◌≤◌, [], length, slice_index, slice_index_or, OnOk, Some as Found};
+ghost use Rattle.std.specs.Prelude.{◌≡◌, ℕ, ◌+◌, ◌<◌, ◌≤◌, [], length, slice_index, slice_index_or, IfOk, OnOk, Some as Found};
 ghost use Rattle.event_order.specs.Tables.{counted, entry, is_given, rows_of, IsPut};
 ghost use Rattle.event_order.specs.declared.slot.Slot.{Slot};
 
@@ -70,13 +70,15 @@ pub(crate) struct Counts {
 }
 
 impl Counts {
-    /// No slot is counted. It takes no memory.
-    pub(crate) fn new(alloc: Global) -> Counts
-        ensures { result.rows.items ≡ [] }
+    /// No slot is counted, and there is room for so many numbers of each row.
+    pub(crate) fn with_room(alloc: Global, lengths: &[u32]) -> Result<Counts, NoMemory>
+        ensures { IfOk result (λ counts. (slot : Slot) → counted (rows_of counts.rows.items) slot ≡ 0) }
     {
-        Counts {
-            rows: Vec::new(alloc),
+        let mut rows = Vec::with_capacity(alloc, lengths.len())?;
+        for length in lengths {
+            rows.push(vec![in alloc; 0; *length as usize]?)?;
         }
+        Ok(Counts { rows })
     }
 
     /// How often a slot is counted.

@@ -1,12 +1,8 @@
 -- What a look, an entry and an exit leave of what a pass does.
-use Rattle.std.proofs.Common.{◌≡◌, ◌≢◌, ℕ, ◌+◌, ◌*◌, ◌/◌, ◌%◌, ◌==◌, ◌∙◌, true, false, List, [], ◌∷◌, Option, Some, None, refl, sym, ap, subst, arith, eq-eqb}
+use Rattle.std.proofs.Common.{◌≡◌, ℕ, ◌+◌, ◌*◌, ◌/◌, ◌%◌, ◌==◌, ◌∙◌, Bool, true, ◌∷◌, Option, Some, None, sym, ap, arith, eq-eqb}
 use Rattle.std.proofs.lemmas.Bool.{ne_eqb}
 use Rattle.interleavings.specs.declared.activity.Activity.{Activity}
-use Rattle.interleavings.specs.declared.activity.HeldTurn.{HeldTurn}
-use Rattle.interleavings.specs.declared.activity.OddLooks.{OddLooks}
-use Rattle.interleavings.specs.declared.activity.Phase.{Phase}
 use Rattle.interleavings.specs.declared.activity.Phase.TheVariants.{Idle, Looked}
-use Rattle.interleavings.specs.declared.event.Event.{Event}
 use Rattle.interleavings.specs.declared.event.Event.TheVariants as events
 use Rattle.interleavings.specs.declared.kind.Kind.TheVariants as by
 use Rattle.interleavings.specs.AtomicStep.{activity_after, entered_if, held_if, held_turn, is_even, looked, phase_if, turn_in, turn_or_zero, with_event}

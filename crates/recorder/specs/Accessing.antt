@@ -1,5 +1,5 @@
 -- What a pass is left with by waiting. Only private clauses cite this module.
-use Rattle.std.specs.Prelude.{◌≡◌, ℕ, ◌++◌, List, [], ◌∷◌, Some}
+use Rattle.std.specs.Prelude.{◌≡◌, ℕ, Some}
 use Rattle.interleavings.specs.declared.activity.Phase.TheVariants.{Idle, Loaded}
 use Rattle.interleavings.specs.declared.event.Event.TheVariants.{Read}
 use Rattle.shared_rule.specs.declared.view.View.{View}

@@ -1,3 +1,5 @@
 pub mod Accessing
+pub mod Halves
 pub mod Sessions
+pub mod Takings
 pub mod Threads

@@ -1,21 +1,17 @@
 -- What a session holds before and after its threads have run, and what it gives.
-use Rattle.std.specs.Prelude.{◌≡◌, ℕ, ◌+◌, ◌*◌, ◌≤◌, List, [], ◌∷◌, length, map}
+use Rattle.std.specs.Prelude.{◌≡◌, ℕ, ◌+◌, ◌≤◌, List, length, map}
 use Rattle.std.specs.List.{AllByRecursion}
 use Rattle.stride_base.specs.Listed.{Listed}
-use Rattle.stride_isa.specs.Limits.{fuel_limit}
-use Rattle.stride_isa.specs.Listing.{cell_count, starts_of}
-use Rattle.sc_machine.specs.declared.limits.TheConstants.{LINE_LIMIT}
-use Rattle.interleavings.specs.declared.activity.Activity.{Activity}
+use Rattle.stride_isa.specs.Listing.{cell_count}
 use Rattle.interleavings.specs.declared.event.LogEntry.{LogEntry}
-use Rattle.interleavings.specs.History.{newcomer}
 use Rattle.interleavings.specs.Recording.{Recording, Setting}
 use Rattle.shared_rule.specs.declared.limits.TheConstants.{DRAW_LIMIT}
-use Rattle.shared_rule.specs.Passes.{IsPassOf, monitors_in, starts_in, view_of}
+use Rattle.shared_rule.specs.Passes.{IsPassOf, starts_in, view_of}
 use Rattle.shared_rule.specs.Views.{first_view}
 use Rattle.recorder.specs.declared.session.Session.{Session}
-use Rattle.recorder.specs.declared.slot.Slot.{Slot}
 use Rattle.recorder.specs.declared.taken.Taken.{Taken}
-use Rattle.recorder.specs.Threads.{IsThreadRecorded}
+use Rattle.recorder.specs.Halves.{AreKept, IsFree, Suits}
+use Rattle.recorder.specs.Takings.{IsBlank}
 
 -- what is fixed of a session
 abbrev pub setting_in : Session → Setting
@@ -34,42 +30,12 @@ recording_in taken = record {
 abbrev pub AreShort : ℕ → List (Listed LogEntry) → Type 0
 AreShort fuel logs = AllByRecursion (λ log. length log.items ≤ fuel) logs
 
--- a slot of a thread that has not run has room for all that the thread can log and print
-pub record IsFree (fuel : ℕ) (slot : Slot) : Type 0 where
-  pub log : slot.log.items ≡ []
-  pub log_room : fuel ≤ slot.log.spare
-  pub out : slot.out.items ≡ []
-  pub out_room : LINE_LIMIT * fuel ≤ slot.out.spare
-
--- what was recorded of one thread
-pub record IsKept (g : Setting) (t : ℕ) (slot : Slot) (activity : Activity) : Type 0 where
-  pub recorded : IsThreadRecorded g t activity slot.log.items slot.out.items slot.end
-  pub short : length slot.log.items ≤ g.fuel
-
--- what was recorded of the threads from this number on, each by what was gathered at its place
-abbrev pub AreKept : Setting → ℕ → List Slot → List Activity → Type 0
-AreKept g t [] [] = Unit {0}
-AreKept g t [] (activity ∷ gathered) = ⊥
-AreKept g t (slot ∷ slots) [] = ⊥
-AreKept g t (slot ∷ slots) (activity ∷ gathered) = IsKept g t slot activity × AreKept g (t + 1) slots gathered
-
 -- the words and the slots are those of the program, and there is room for what the session gives
 pub record Fits (s : Session) : Type 0 where
-  pub some : 1 ≤ s.fuel
-  pub limit : s.fuel ≤ fuel_limit
-  pub patient : 1 ≤ s.patience
-  pub starts : starts_in s.shared ≡ starts_of s.program.now.decls
-  pub monitors : monitors_in s.shared ≡ length s.program.now.monitors
+  pub suits : Suits (setting_in s) s.shared
   pub pass_of : IsPassOf s.shared s.pass
   pub count : length s.slots.items ≡ length s.program.now.threads
-  pub logs : s.logs.items ≡ []
-  pub logs_room : length s.program.now.threads ≤ s.logs.spare
-  pub outputs : s.outputs.items ≡ []
-  pub outputs_room : length s.program.now.threads ≤ s.outputs.spare
-  pub ends : s.ends.items ≡ []
-  pub ends_room : length s.program.now.threads ≤ s.ends.spare
-  pub last_values : s.last_values.items ≡ []
-  pub last_values_room : cell_count s.program.now.decls ≤ s.last_values.spare
+  pub blank : IsBlank (length s.program.now.threads) (cell_count s.program.now.decls) s.taken
 
 -- no thread has run
 pub record IsReserved (s : Session) : Type 0 where

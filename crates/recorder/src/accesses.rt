@@ -153,9 +153,16 @@ pub(crate) fn enter<R: Wait, G: Gate>(
                 if looks == patience {
                     return None;
                 }
-                backoff.snooze();
+                snooze(&backoff);
             }
         }
     }
     unreachable!()
+}
+
+// Another thread holds the monitor, so it has to go on first.
+#[cold]
+#[inline(never)]
+fn snooze(backoff: &Backoff) {
+    backoff.snooze();
 }

@@ -35,6 +35,7 @@ impl Gate for OpenGate {
 }
 
 /// A thread's way through a gate.
+#[derive(Drop)]
 pub(crate) struct Way<'g, G> {
     pub gate: &'g G,
     pub thread: u32,

@@ -15,7 +15,8 @@ use sc_machine::{End, Stop, ThreadRun};
 use shared_rule::{Pass, Shared};
 use std::sync::Wait;
 use stride_base::List;
-use stride_isa::limits::MONITOR_LIMIT;
+use stride_isa::each_cell_starts;
+use stride_isa::limits::{FUEL_LIMIT, MONITOR_LIMIT};
 
 /// Records a thread, from its start to its end, on the pass that it is lent. It refuses nothing and takes no memory. It ends as
 /// stopped exactly where it found a monitor held so often in a row as the patience says.
@@ -35,6 +36,7 @@ pub fn record_thread<R: Wait, G: Gate>(
     requires cells { starts_in shared.now ≡ starts_of run.program.decls }
     requires monitors { monitors_in shared.now ≡ length run.program.monitors }
     requires start { run ≡ start_run run.program thread run.fuel }
+    requires fuel_limit { run.fuel ≤ FUEL_LIMIT }
     requires patient { 1 ≤ patience }
     requires patience_limit { patience ≤ PATIENCE_LIMIT }
     requires log { log.old.items ≡ [] }
@@ -45,9 +47,10 @@ pub fn record_thread<R: Wait, G: Gate>(
     ensures idle { (view_of pass.new).activity.phase ≡ Idle }
     ensures name { (view_of pass.new).activity.name ≡ (view_of pass.old).activity.name }
     ensures same { IsSameBeside (view_of pass.old) (view_of pass.new) }
-    ensures recorded { IsThreadRecorded (record { program = run.program; fuel = run.fuel; patience = patience }) thread (view_of pass.new).activity log.new.items out.new.items result }
-    ensures short { length log.new.items ≤ run.fuel }
+    ensures recorded { IsThreadRecorded (record { program = run.entry.program; fuel = run.entry.fuel; patience = patience }) thread (view_of pass.new).activity log.new.items out.new.items result }
+    ensures short { length log.new.items ≤ run.entry.fuel }
 {
+    each_cell_starts();
     walks_are_followed();
     walks_go_on();
     walks_stand();

@@ -2,23 +2,35 @@
 ghost use Rattle.std.specs.Prelude.{◌≡◌, ◌≤◌, length, IfOk};
 ghost use Rattle.interleavings.specs.Recording.{IsRecording};
 ghost use Rattle.recorder.specs.Sessions.{AreShort, HasRun, IsReserved, recording_in, setting_in};
+ghost use Rattle.stride_isa.specs.Listing.{starts_of};
 
 use crate::gate::Gate;
 use crate::halves::{Task, record_all};
-use crate::slot::Slot;
+use crate::slot::{Slot, free_slots};
 use crate::taken::Taken;
-use interleavings::{LogEntry, PATIENCE_LIMIT};
-use sc_machine::End;
-use sc_machine::limits::LINE_LIMIT;
+use interleavings::PATIENCE_LIMIT;
 use shared_rule::{Pass, Shared};
 use std::alloc::Global;
 use std::sync::Wait;
 use std::thread::Threads;
-use stride_base::{List, NoMemory};
-use stride_isa::Checked;
+use stride_base::NoMemory;
 use stride_isa::limits::{FUEL_LIMIT, THREAD_LIMIT};
+use stride_isa::{Checked, each_cell_starts};
+
+// The starting values of the program's cells, in order.
+fn starting_values(alloc: Global, program: &Checked) -> Result<Vec<u64>, NoMemory>
+    ensures { IfOk result (λ starts. starts.items ≡ starts_of program.now.decls) }
+{
+    each_cell_starts();
+    let mut starts = Vec::new(alloc);
+    for cell in 0..program.cells() {
+        starts.push(program.start_of(cell))?;
+    }
+    Ok(starts)
+}
 
 /// The recording of a program: its shared words, and what is kept of each thread. All memory is taken by `reserve`.
+#[derive(Drop)]
 pub struct Session<'p> {
     alloc: Global,
     program: &'p Checked,
@@ -27,10 +39,7 @@ pub struct Session<'p> {
     shared: Shared,
     pass: Pass,
     slots: Vec<Slot>,
-    logs: List<List<LogEntry>>,
-    outputs: List<List<u8>>,
-    ends: List<End>,
-    last_values: List<u64>,
+    taken: Taken,
 }
 
 impl<'p> Session<'p> {
@@ -48,8 +57,21 @@ impl<'p> Session<'p> {
         ensures setting { IfOk result (λ s. setting_in s ≡ record { program = program.now; fuel = fuel; patience = patience }) }
         ensures reserved { IfOk result IsReserved }
     {
-        let threads = program.thread_count();
-        todo!()
+        each_cell_starts();
+        program.facts();
+        let starts = starting_values(alloc, program)?;
+        let (shared, pass) = Shared::prepare(alloc, starts.as_slice(), program.monitors())?;
+        let threads = program.threads();
+        Ok(Session {
+            alloc,
+            program,
+            fuel,
+            patience,
+            shared,
+            pass,
+            slots: free_slots(alloc, threads, fuel)?,
+            taken: Taken::reserve(alloc, threads as usize, program.cells() as usize)?,
+        })
     }
 
     /// Runs all threads of the program beside each other, and records each. It refuses nothing and takes no memory.
@@ -72,10 +94,22 @@ impl<'p> Session<'p> {
     /// What was recorded. It refuses nothing and takes no memory.
     pub fn finish(self) -> Taken
         requires { HasRun self }
-        ensures recording { IsRecording (setting_in self) (recording_in result) }
+        ensures recording { IsRecording (setting_in self.entry) (recording_in result) }
         ensures few { length result.logs.items ≤ THREAD_LIMIT }
-        ensures short { AreShort self.fuel result.logs.items }
+        ensures short { AreShort self.entry.fuel result.logs.items }
     {
-        todo!()
+        each_cell_starts();
+        let Session {
+            program,
+            shared,
+            pass,
+            slots,
+            mut taken,
+            ..
+        } = self;
+        let closed = shared.close(pass);
+        taken.add_threads(slots);
+        taken.add_last_values(&closed, program.cells());
+        taken
     }
 }

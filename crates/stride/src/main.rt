@@ -3,6 +3,7 @@
 
 ghost use Rattle.std.specs.Prelude.{◌≡◌, ◌<◌};
 
+use recorder::OpenGate;
 use std::alloc::{AllocError, Global};
 use std::io::ErrorKind;
 use std::marker::Brand;
@@ -12,7 +13,7 @@ use std::sync::ledger::{Blank, Ledger};
 use std::thread::Threads;
 use std::{env, io};
 use stride_base::{StdSink, StdSource, Steps};
-use stride_cli::{Status, offline};
+use stride_cli::{Status, stride};
 
 /// The words after the program's name. A command line with a word that is no UTF-8 is a faulty one, as one with an empty
 /// word is: no command has such a name.
@@ -41,7 +42,15 @@ fn run<L: Ledger, R: Threads + Wait + Sync + Input + Print>(
     let mut source = StdSource::new(rt.reader());
     let mut sink = StdSink::new(io::writer(rt));
     let mut steps = Steps::<L>::new(rt, blank);
-    offline(alloc, words, &mut source, &mut sink, &mut steps)
+    stride(
+        rt,
+        alloc,
+        words,
+        &mut source,
+        &mut sink,
+        &OpenGate,
+        &mut steps,
+    )
 }
 
 fn status_of<R: Threads + Wait + Sync + Input + Print>(

@@ -10,6 +10,7 @@ use Rattle.interleavings.specs.Recording.{IsFollowed, IsHistoryOf, IsRecording, 
 use Rattle.interleavings.specs.TraceLists.{IsTraces, TraceLists}
 use Rattle.event_order.specs.Laws.{traces_of}
 use Rattle.stride_cli.specs.Answers.{setting_of}
+use Rattle.stride_cli.specs.Inferring.{SchedulesEvents}
 use Rattle.stride_cli.specs.Settings.{fuel}
 
 -- the threads of a valid program with some fuel were run again by these logs
@@ -25,6 +26,12 @@ pub record IsRunAgain (p : Listing) (fuel : ℕ) (logs : List (List LogEntry)) (
 -- the threads were run again by some logs
 abbrev pub HasRunAgain : Listing → ℕ → TraceLists → Type 0
 HasRunAgain p fuel traces = (logs : List (List LogEntry)) × IsRunAgain p fuel logs traces
+
+-- the schedule is that of the events of threads that were run again
+pub record HasSchedule (p : Listing) (fuel : ℕ) (schedule : List ℕ) : Type 0 where
+  pub traces : TraceLists
+  pub again : HasRunAgain p fuel traces
+  pub scheduled : SchedulesEvents traces schedule
 
 -- the logs are those of a recording of the program
 pub record IsLogged (p : Listing) (logs : List (List LogEntry)) : Type 0 where

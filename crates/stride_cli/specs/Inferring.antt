@@ -34,6 +34,10 @@ IsInferredOf traces (Unlinked refusal) = IsFirstRefusal traces refusal
 IsInferredOf traces (Circular cycle) = (links : LinkRows) × (IsWhole traces links × IsTheCycle traces links cycle)
 IsInferredOf traces (Ordered inferred) = IsWhole traces inferred.links × IsLeast traces inferred.links inferred.schedule
 
+-- the schedule is the least of the events by their links
+abbrev pub SchedulesEvents : TraceLists → List ℕ → Type 0
+SchedulesEvents traces schedule = (links : LinkRows) × IsInferredOf traces (Ordered (record { links = links; schedule = schedule }))
+
 -- what threads that were followed come to, or where the least one that does diverges
 abbrev pub IsInferredBy : Listing → Result (List Followed) Divergence → Inference → Type 0
 IsInferredBy p (Err divergence) inference = inference ≡ Diverging divergence

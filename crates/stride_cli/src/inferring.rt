@@ -3,13 +3,13 @@ ghost use Rattle.std.specs.Prelude.{◌≡◌, ◌+◌, ◌*◌, ◌≤◌, leng
 ghost use Rattle.linkage.specs.Sources.{event_count};
 ghost use Rattle.stride_cli.specs.Bundles.{IsRerun, RefusesEvents};
 ghost use Rattle.stride_cli.specs.Gives.{Refuses};
-ghost use Rattle.stride_cli.specs.Inferring.{IsInferredOf, Ordered};
+ghost use Rattle.stride_cli.specs.Inferring.{IsInferredOf, SchedulesEvents, Ordered};
 ghost use Rattle.stride_cli.specs.Looks.{inferring_looks};
 ghost use Rattle.stride_cli.specs.declared.words.Command.TheVariants.{Infer, Replay};
 
 use crate::input::accept;
 use crate::refusal::Refusal;
-use event_order::arrange;
+use event_order::{arrange, arrange_owned};
 use interleavings::Traces;
 use linkage::{Links, link};
 use log_format::decode;
@@ -73,4 +73,19 @@ pub fn order_events<L: Ledger>(
     let links = link(alloc, traces, steps)?;
     let schedule = arrange(alloc, traces, &links, steps)?;
     Ok(Order { links, schedule })
+}
+
+/// The least order of the events, for which these and their links are let go.
+pub fn schedule_events<L: Ledger>(
+    alloc: Global,
+    traces: Traces,
+    steps: &mut Steps<L>,
+) -> Result<List<u8>, Refusal>
+    ensures scheduled { IfOk result (λ schedule. SchedulesEvents traces schedule.items) }
+    ensures refused { IfErr result (RefusesEvents traces) }
+    ensures looks { steps.new ≤ steps.old + inferring_looks traces }
+{
+    let links = link(alloc, &traces, steps)?;
+    let schedule = arrange_owned(alloc, traces, links, steps)?;
+    Ok(schedule)
 }

@@ -4,8 +4,9 @@ ghost use Rattle.std.specs.List.{AllByRecursion};
 ghost use Rattle.log_format.specs.Bundles.{lists_of};
 ghost use Rattle.stride_cli.specs.Again.{IsLogged};
 
-use crate::settings::FUEL;
+use crate::settings::{FUEL, PATIENCE};
 use interleavings::LogEntry;
+use recorder::{Gate, Session};
 use std::alloc::Global;
 use std::sync::Wait;
 use std::thread::Threads;
@@ -14,7 +15,7 @@ use stride_isa::Checked;
 use stride_isa::limits::THREAD_LIMIT;
 
 /// Records the program: each of its threads runs on a thread of its own. The logs of the recording.
-pub fn record<R: Threads + Wait + Sync, G: Sync>(
+pub fn record<R: Threads + Wait + Sync, G: Gate>(
     rt: &R,
     alloc: Global,
     program: &Checked,
@@ -24,5 +25,7 @@ pub fn record<R: Threads + Wait + Sync, G: Sync>(
     ensures few { IfOk result (λ logs. length logs.items ≤ THREAD_LIMIT) }
     ensures short { IfOk result (λ logs. AllByRecursion (λ log. length log.items ≤ FUEL) logs.items) }
 {
-    Err(NoMemory)
+    let mut session = Session::reserve(alloc, program, FUEL, PATIENCE)?;
+    session.run_threads(rt, gate);
+    Ok(session.finish().logs)
 }

@@ -12,6 +12,7 @@ use crate::commands::live_report_of;
 use crate::offline_call::offline;
 use crate::status::Status;
 use crate::words::{Live, live_of};
+use recorder::Gate;
 use std::alloc::Global;
 use std::sync::Wait;
 use std::sync::ledger::Ledger;
@@ -20,7 +21,7 @@ use stride_base::limits::INPUT_LIMIT;
 use stride_base::{Failed, InputError, Sink, Source, Steps, put_all, read_all};
 
 // Does a live command, as `stride` says.
-fn live<R: Threads + Wait + Sync, S: Source, K: Sink, G: Sync, L: Ledger>(
+fn live<R: Threads + Wait + Sync, S: Source, K: Sink, G: Gate, L: Ledger>(
     rt: &R,
     alloc: Global,
     command: Live,
@@ -69,7 +70,7 @@ fn live<R: Threads + Wait + Sync, S: Source, K: Sink, G: Sync, L: Ledger>(
 /// are those of `offline`, start no thread, and always return.
 ///
 /// What is said of bytes holds where the source and the sink tell theirs.
-pub fn stride<R: Threads + Wait + Sync, S: Source, K: Sink, G: Sync, L: Ledger>(
+pub fn stride<R: Threads + Wait + Sync, S: Source, K: Sink, G: Gate, L: Ledger>(
     rt: &R,
     alloc: Global,
     words: &[&str],

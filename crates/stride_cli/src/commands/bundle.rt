@@ -9,6 +9,7 @@ use crate::refusal::Refusal;
 use crate::settings::FUEL;
 use assembler::print_program;
 use log_format::{Bundle, encode};
+use recorder::Gate;
 use std::alloc::Global;
 use std::sync::Wait;
 use std::thread::Threads;
@@ -17,7 +18,7 @@ use stride_base::limits::INPUT_LIMIT;
 
 /// The bundle of a recording of the program that the bytes spell, with the program's canonical text. The bytes are let go before the
 /// threads start.
-pub fn bundle_program<R: Threads + Wait + Sync, G: Sync>(
+pub fn bundle_program<R: Threads + Wait + Sync, G: Gate>(
     rt: &R,
     alloc: Global,
     bytes: List<u8>,

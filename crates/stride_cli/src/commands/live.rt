@@ -8,6 +8,7 @@ use crate::commands::bundle::bundle_program;
 use crate::commands::run::run_program;
 use crate::refusal::Refusal;
 use crate::words::Live;
+use recorder::Gate;
 use std::alloc::Global;
 use std::sync::Wait;
 use std::sync::ledger::Ledger;
@@ -16,7 +17,7 @@ use stride_base::limits::INPUT_LIMIT;
 use stride_base::{List, Steps};
 
 /// The report of a live command on an input that was read.
-pub fn live_report_of<R: Threads + Wait + Sync, G: Sync, L: Ledger>(
+pub fn live_report_of<R: Threads + Wait + Sync, G: Gate, L: Ledger>(
     rt: &R,
     alloc: Global,
     command: Live,

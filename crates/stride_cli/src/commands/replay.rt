@@ -6,7 +6,7 @@ ghost use Rattle.stride_cli.specs.Looks.{OnEarly, command_looks, greatest_looks}
 ghost use Rattle.stride_cli.specs.Runs.{run_section};
 ghost use Rattle.stride_cli.specs.declared.words.Command.TheVariants.{Replay as Replaying};
 
-use crate::inferring::{order_events, rerun_bundle};
+use crate::inferring::{rerun_bundle, schedule_events};
 use crate::refusal::Refusal;
 use crate::replaying::replay_events;
 use crate::reports::{put_ends, put_schedule};
@@ -40,10 +40,11 @@ pub fn replay_bundle<L: Ledger>(
     ensures ceiling { steps.new ≤ steps.old + greatest_looks }
 {
     let rerun = rerun_bundle(alloc, bytes)?;
-    let order = order_events(alloc, &rerun.traces, steps)?;
-    let played = replay_events(alloc, &rerun.program, rerun.fuel, &rerun.traces, &order)?;
+    let order = schedule_events(alloc, rerun.traces, steps)?;
+    let schedule = order.as_slice();
+    let played = replay_events(alloc, &rerun.program, rerun.fuel, schedule)?;
     let mut report = List::new(alloc);
-    put_schedule(&mut report, order.schedule.as_slice())?;
+    put_schedule(&mut report, schedule)?;
     put_run(&mut report, &played)?;
     Ok(report)
 }

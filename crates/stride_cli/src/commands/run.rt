@@ -13,6 +13,7 @@ use crate::refusal::Refusal;
 use crate::replaying::replay_events;
 use crate::reports::put_schedule;
 use crate::settings::FUEL;
+use recorder::Gate;
 use std::alloc::Global;
 use std::sync::Wait;
 use std::sync::ledger::Ledger;
@@ -22,7 +23,7 @@ use stride_base::{List, Steps};
 
 /// The schedule of a recording of the program that the bytes spell, and what its run prints and how its threads end. The bytes are let
 /// go before the threads start, and the logs once they are run again.
-pub fn run_program<R: Threads + Wait + Sync, G: Sync, L: Ledger>(
+pub fn run_program<R: Threads + Wait + Sync, G: Gate, L: Ledger>(
     rt: &R,
     alloc: Global,
     bytes: List<u8>,
@@ -45,9 +46,10 @@ pub fn run_program<R: Threads + Wait + Sync, G: Sync, L: Ledger>(
     let traces = rerun_recorded(alloc, &program, &logs)?;
     drop(logs);
     let order = order_recorded(alloc, &program, &traces, steps)?;
-    let played = replay_events(alloc, &program, FUEL, &traces, &order)?;
+    let schedule = order.schedule.as_slice();
+    let played = replay_events(alloc, &program, FUEL, schedule)?;
     let mut report = List::new(alloc);
-    put_schedule(&mut report, order.schedule.as_slice())?;
+    put_schedule(&mut report, schedule)?;
     put_run(&mut report, &played)?;
     Ok(report)
 }

@@ -37,11 +37,12 @@ pub fn simulate<L: Ledger>(
     let driven = drive(alloc, &input.program, FUEL, PATIENCE, order)?;
     let traces = rerun_recorded(alloc, &input.program, &driven.logs)?;
     let inferred = order_recorded(alloc, &input.program, &traces, steps)?;
-    let played = replay_events(alloc, &input.program, FUEL, &traces, &inferred)?;
+    let schedule = inferred.schedule.as_slice();
+    let played = replay_events(alloc, &input.program, FUEL, schedule)?;
     let mut report = List::new(alloc);
     put_logs(&mut report, driven.logs.as_slice())?;
     put_links(&mut report, &traces, &inferred.links, steps)?;
-    put_schedule(&mut report, inferred.schedule.as_slice())?;
+    put_schedule(&mut report, schedule)?;
     put_run(&mut report, &played)?;
     Ok(report)
 }

@@ -1,7 +1,6 @@
 use Rattle.event_order.specs.Fronts.{done_of}
 use Rattle.event_order.specs.Tables.{counted, rows_of}
 use Rattle.event_order.proofs.Greedy.{kept_more, kept_start, next_there, rest_falls}
-use Rattle.event_order.proofs.Nexts.{none_known}
 use Rattle.event_order.proofs.extending.extend.Goals as goal
 
 pub loop-ready-init : goal.loop-ready-init
@@ -9,7 +8,7 @@ loop-ready-init c = rw (c.reserve.ensures.items, c.new-order.ensures.items) (rec
   front = c.in_ok-front.ensures.front;
   nexts = c.in_ok-front.ensures.nexts;
   waiters = c.in_ok-front.ensures.waiters;
-  low = c.in_ok-front.ensures.low;
+  ready = c.in_ok-front.ensures.ready;
   kept = kept_start c.args.deeds.now (done_of c.in_ok-front.front.done.items) c.in_ok-front.ensures.none;
 })
 
@@ -23,10 +22,6 @@ loop-ready-preserved c = rw c.in_ok-push.ensures.items (record {
   front = c.stand.ensures.front;
   nexts = c.stand.ensures.nexts;
   waiters = c.stand.ensures.waiters;
-  low = c.stand.ensures.low;
+  ready = c.stand.ensures.ready;
   kept = kept_more c.args.deeds.now (counted (rows_of c.loop-ready.front.waiting.rows.items)) c.loop-ready.front.done.items c.in-Some.ready.thread (done_of c.stand.new.self.done.items) c.loop-ready.order.items c.loop-ready.invariant.front c.in-Some.ensures.1 c.in-Some.ensures.2 c.stand.ensures.raised c.loop-ready.invariant.kept;
 })
-
-pub stand-requires-clause-low : goal.stand-requires-clause-low
-stand-requires-clause-low c =
-    none_known c.args.deeds.now (counted (rows_of c.loop-ready.front.waiting.rows.items)) c.loop-ready.front.done.items c.loop-ready.front.next.items c.in-Some.ready.thread c.in-Some.ensures.0 c.loop-ready.invariant.nexts c.in-Some.ensures.2

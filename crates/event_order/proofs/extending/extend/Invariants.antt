@@ -1,6 +1,6 @@
 use Rattle.std.proofs.Common.{◌-◌, None, length}
 use Rattle.event_order.specs.Deeds.{size}
-use Rattle.event_order.specs.Fronts.{AreNexts, AreWaiters, IsFront, IsKept, NoneReady, done_of}
+use Rattle.event_order.specs.Fronts.{AreNexts, AreReady, AreWaiters, IsFront, IsKept, done_of}
 use Rattle.event_order.specs.Sums.{upto}
 use Rattle.event_order.specs.Tables.{counted, rows_of}
 use Rattle.event_order.proofs.extending.extend.Given as goal
@@ -10,7 +10,7 @@ invariant-loop-ready l = record {
   front : IsFront l.deeds (counted (rows_of l.front.waiting.rows.items)) l.front.done.items;
   nexts : AreNexts l.deeds (counted (rows_of l.front.waiting.rows.items)) None l.front.done.items l.front.next.items;
   waiters : AreWaiters l.front.next.items (rows_of l.front.waiters.items);
-  low : NoneReady l.front.next.items l.front.from;
+  ready : AreReady l.front.next.items l.front.ready;
   kept : IsKept l.deeds (done_of l.front.done.items) l.order.items;
 }
 

@@ -1,4 +1,4 @@
-use Rattle.std.proofs.Common.{ap, arith, length}
+use Rattle.std.proofs.Common.{arith, refl}
 use Rattle.stride_cli.specs.Inferring.{Inferred}
 use Rattle.stride_cli.proofs.LeastRuns.{schedule_short}
 use Rattle.stride_cli.proofs.Replayed.{never_refused}
@@ -12,12 +12,11 @@ replay-requires-clause-limit c = c.requires.again.1.most
 
 pub replay-requires-clause-short : goal.replay-requires-clause-short
 replay-requires-clause-short c =
-    let inferred : Inferred = record { links = c.args.order.now.links; schedule = c.args.order.now.schedule.items } in
-    let short = schedule_short c.extensions_are_whole.ensures c.args.traces.now c.requires.again.1.kept inferred c.requires.ordered in
-    let same = ap length c.as_slice.ensures in
-    omega (arith, short, same)
+    let inferred : Inferred = record { links = c.requires.scheduled.0; schedule = c.args.schedule.now } in
+    let short = schedule_short c.extensions_are_whole.ensures c.requires.traces c.requires.again.1.kept inferred c.requires.scheduled.1 in
+    omega (arith, short)
 
 pub unreachable-requires : goal.unreachable-requires
 unreachable-requires c =
-    let inferred : Inferred = record { links = c.args.order.now.links; schedule = c.args.order.now.schedule.items } in
-    never_refused c.extensions_are_runs.ensures c.args.program.now c.args.fuel c.requires.again.0 c.args.traces.now inferred c.as_slice.result.now _ c.requires.again.1 c.requires.ordered c.as_slice.ensures (rw c.in-Err-NotEnabled.field-0-is at c.in-Err-NotEnabled.ensures.run)
+    let inferred : Inferred = record { links = c.requires.scheduled.0; schedule = c.args.schedule.now } in
+    never_refused c.extensions_are_runs.ensures c.args.program.now c.args.fuel c.requires.again.0 c.requires.traces inferred c.args.schedule.now _ c.requires.again.1 c.requires.scheduled.1 refl (rw c.in-Err-NotEnabled.field-0-is at c.in-Err-NotEnabled.ensures.run)

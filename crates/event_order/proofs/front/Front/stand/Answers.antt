@@ -6,6 +6,7 @@ use Rattle.interleavings.specs.declared.traces.Place.{Place}
 use Rattle.event_order.specs.Deeds.{deeds_of}
 use Rattle.event_order.specs.Fronts.{AreNexts, done_of, waiting}
 use Rattle.event_order.specs.Tables.{counted, is_given, rows_of}
+use Rattle.event_order.specs.declared.front.Next.{Next}
 use Rattle.event_order.proofs.Nexts.{nexts_stood}
 use Rattle.event_order.proofs.Waiting.{front_raised, gives_deed, gives_there, thread_there, waiting_for}
 use Rattle.event_order.proofs.front.Front.stand.Goals as goal
@@ -28,10 +29,11 @@ wake-self-requires-clause-nexts c =
     let done = c.args.self.now.done.items in
     let thread = c.args.ready.thread in
     let there = thread_there rows thread (done_of done thread) (slice_get_within (deeds_of rows thread) (done_of done thread) c.args.ready.deed c.requires.deed) in
-    let P : List ℕ → Type 0 = λ now. AreNexts rows (counted (rows_of c.lower-emptied.new.self.rows.items)) (Some c.in-Some.slot) now (set c.args.self.now.next.items thread c.judge-now.result) in
-    subst P (sym c.deref.ensures.value)
+    let P : List ℕ → Type 0 = λ now. AreNexts rows (counted (rows_of c.lower-emptied.new.self.rows.items)) (Some c.in-Some.slot) now c.keep-self.new.next.items in
+    let Q : List Next → Type 0 = λ nexts. AreNexts rows (counted (rows_of c.lower-emptied.new.self.rows.items)) (Some c.in-Some.slot) (set done thread (c.index.result.now + 1)) nexts in
+    subst P (sym c.deref.ensures.value) (subst Q (sym c.keep-self.ensures.next)
     (nexts_stood rows (counted (rows_of c.args.self.now.waiting.rows.items)) (counted (rows_of c.lower-emptied.new.self.rows.items)) c.gives.result (Some c.in-Some.slot) done c.args.self.now.next.items thread (c.index.result.now + 1) c.judge-now.result
-    c.requires.front.threads there c.lower-emptied.ensures.counts c.in-Some.ensures.emptied c.requires.nexts c.judge-now.ensures)
+    c.requires.front.threads there c.lower-emptied.ensures.counts c.in-Some.ensures.emptied c.requires.nexts c.judge-now.ensures))
 
 pub returns-in_default-clause-nexts : goal.returns-in_default-clause-nexts
 returns-in_default-clause-nexts c =
@@ -39,8 +41,10 @@ returns-in_default-clause-nexts c =
     let done = c.args.self.now.done.items in
     let thread = c.args.ready.thread in
     let there = thread_there rows thread (done_of done thread) (slice_get_within (deeds_of rows thread) (done_of done thread) c.args.ready.deed c.requires.deed) in
-    nexts_stood rows (counted (rows_of c.args.self.now.waiting.rows.items)) (counted (rows_of c.lower-emptied.new.self.rows.items)) c.gives.result None done c.args.self.now.next.items thread (c.index.result.now + 1) c.judge-now.result
-    c.requires.front.threads there c.lower-emptied.ensures.counts c.in_default.ensures.emptied c.requires.nexts c.judge-now.ensures
+    let Q : List Next → Type 0 = λ nexts. AreNexts rows (counted (rows_of c.lower-emptied.new.self.rows.items)) None (set done thread (c.index.result.now + 1)) nexts in
+    subst Q (sym c.keep-self.ensures.next)
+    (nexts_stood rows (counted (rows_of c.args.self.now.waiting.rows.items)) (counted (rows_of c.lower-emptied.new.self.rows.items)) c.gives.result None done c.args.self.now.next.items thread (c.index.result.now + 1) c.judge-now.result
+    c.requires.front.threads there c.lower-emptied.ensures.counts c.in_default.ensures.emptied c.requires.nexts c.judge-now.ensures)
 
 pub returns-in-Some-clause-front : goal.returns-in-Some-clause-front
 returns-in-Some-clause-front c =
