@@ -1,0 +1,15 @@
+//! The words of the command line.
+//!
+//! Owns: the grammar of the words (`Words`), and what they set.
+//! The layer above may rely on the clause of `read_words`: settings are answered exactly for a line of the grammar that has
+//! these settings, `Usage` exactly where the words are no line of it, and of the readings of the words there is one (`Laws`).
+#![tactic(auto)]
+
+mod command_line;
+mod laws;
+mod settings;
+mod values;
+
+pub use command_line::read_words;
+pub use laws::one_reading;
+pub use settings::{Command, Refusal, Settings};
