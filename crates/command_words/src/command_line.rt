@@ -49,8 +49,8 @@ fn refusal_of(error: &Error) -> Refusal
 /// # Errors
 ///
 /// `Usage` where the words are no line of the grammar, and `NoMemory` where memory runs out.
-pub fn read_words<'a>(alloc: Global, words: &'a [&'a str]) -> Result<Settings, Refusal>
-    ensures { Words (map (λ word. word.now) words.entry.now) result }
+pub fn read_words(alloc: Global, words: &[&str]) -> Result<Settings, Refusal>
+    ensures { Words (map (λ word. word.now) words.now) result }
 {
     let matches = match parse(alloc, words) {
         Ok(matches) => matches,

@@ -6,10 +6,15 @@
 #![tactic(auto)]
 
 mod command_line;
+mod fault;
 mod laws;
 mod settings;
 mod values;
 
 pub use command_line::read_words;
+pub use fault::{Fault, what_is_wrong};
 pub use laws::one_reading;
 pub use settings::{Command, Refusal, Settings};
+
+#[cfg(test)]
+mod tests;

@@ -8,7 +8,7 @@ use interleavings::PATIENCE_LIMIT;
 use stride_isa::limits::FUEL_LIMIT;
 
 /// The value of a decimal, or `None` where the word is no decimal of a `u64`.
-fn decimal(word: &str) -> Option<u64>
+pub(crate) fn decimal(word: &str) -> Option<u64>
     ensures { MatchOption result
         ((n : ℕ) → IsDecimal word.now n → n < 2 ^ 64 → ⊥)
         (IsDecimal word.now) }
