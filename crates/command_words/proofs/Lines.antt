@@ -14,7 +14,7 @@ use Rattle.command_words.specs.App.{line_app}
 use Rattle.command_words.specs.Reading.{IsReading, listed}
 use Rattle.command_words.specs.Words.{Answers, IsLine, Names, Setting, Sets, Word, fuel, patience, form, given, is_positional, live_words, positionals}
 use Rattle.command_words.specs.declared.settings.Command.{Command}
-use Rattle.command_words.specs.declared.settings.Command.TheVariants.{Check, Follow, Sim, Run, Bundle, Infer, Replay, Show, Upgrade, Demo}
+use Rattle.command_words.specs.declared.settings.Command.TheVariants.{Demo}
 use Rattle.command_words.specs.declared.settings.Refusal.{Refusal}
 use Rattle.command_words.specs.declared.settings.Refusal.TheVariants.{Usage, NoMemory}
 use Rattle.command_words.specs.declared.settings.Settings.{Settings}
@@ -81,22 +81,14 @@ line_means words settings line =
 
 -- ---- what is taken, and means something, is a line
 
+live_undashed : (live : Bool) → list_all is_positional (live_words live) ≡ true
+live_undashed true = refl
+live_undashed false = refl
+
 names_undashed : (command : Command) (words : List Word) → Names command words → list_all is_positional words ≡ true
-names_undashed Check words named = ap (list_all is_positional) named
-names_undashed Follow words named = ap (list_all is_positional) named
-names_undashed Sim words named = ap (list_all is_positional) named
-names_undashed Run words named = ap (list_all is_positional) named
-names_undashed Bundle words named = ap (list_all is_positional) named
-names_undashed Infer words named = ap (list_all is_positional) named
-names_undashed Replay words named = ap (list_all is_positional) named
-names_undashed Show words named = ap (list_all is_positional) named
-names_undashed Upgrade words named = ap (list_all is_positional) named
 names_undashed (Demo number live) words (decimal, spelled, value, small) =
     ap (list_all is_positional) spelled ∙ ap (λ (b : Bool). b && list_all is_positional (live_words live)) (decimal_undashed decimal number value) ∙ live_undashed live
-  where
-    live_undashed : (live : Bool) → list_all is_positional (live_words live) ≡ true
-    live_undashed true = refl
-    live_undashed false = refl
+names_undashed command words named = ap (list_all is_positional) named
 
 pub meant_line : (words : List Word) (settings : Settings) → fault_of line_app words ≡ [] → Means (matches_of line_app words) settings → IsLine words settings
 meant_line words settings clear means =

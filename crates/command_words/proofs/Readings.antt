@@ -4,7 +4,7 @@ use Rattle.std.specs.Prelude.{IsErrAnd}
 use Rattle.command_words.specs.Reading.{IsDemo}
 use Rattle.command_words.specs.Words.{Answers, Names, Word, live_words}
 use Rattle.command_words.specs.declared.settings.Command.{Command}
-use Rattle.command_words.specs.declared.settings.Command.TheVariants.{Check, Follow, Sim, Run, Bundle, Infer, Replay, Show, Upgrade, Demo}
+use Rattle.command_words.specs.declared.settings.Command.TheVariants.{Demo}
 use Rattle.command_words.specs.declared.settings.Refusal.{Refusal}
 use Rattle.command_words.specs.declared.settings.Refusal.TheVariants.{Usage, NoMemory}
 
@@ -21,32 +21,16 @@ tail_of (word ∷ words) = words
 module _ (words : List Word) (word : Word) (live : Bool) (is : words ≡ codes "demo" ∷ word ∷ live_words live) where
   -- words that begin with `demo` name no command but a demonstration
   only_demo : (command : Command) → Names command words → IsDemo word live command
-  only_demo Check named = absurd (cc)
-  only_demo Follow named = absurd (cc)
-  only_demo Sim named = absurd (cc)
-  only_demo Run named = absurd (cc)
-  only_demo Bundle named = absurd (cc)
-  only_demo Infer named = absurd (cc)
-  only_demo Replay named = absurd (cc)
-  only_demo Show named = absurd (cc)
-  only_demo Upgrade named = absurd (cc)
   only_demo (Demo number other) (decimal, spelled, value, small) =
       let same : codes "demo" ∷ word ∷ live_words live ≡ codes "demo" ∷ decimal ∷ live_words other = sym is ∙ spelled in
       let word_is : word ≡ decimal = cc in
       let live_is : live_words live ≡ live_words other = cc in
       (rw word_is value, small, same_live live other live_is)
+  only_demo command named = absurd (cc)
 
   demo_is_named : (command : Command) → IsDemo word live command → Names command words
-  demo_is_named Check demo = absurd demo
-  demo_is_named Follow demo = absurd demo
-  demo_is_named Sim demo = absurd demo
-  demo_is_named Run demo = absurd demo
-  demo_is_named Bundle demo = absurd demo
-  demo_is_named Infer demo = absurd demo
-  demo_is_named Replay demo = absurd demo
-  demo_is_named Show demo = absurd demo
-  demo_is_named Upgrade demo = absurd demo
   demo_is_named (Demo number other) (value, small, same) = (word, is ∙ ap (λ l. codes "demo" ∷ word ∷ live_words l) same, value, small)
+  demo_is_named command demo = absurd demo
 
 pub demo_named : (words : List Word) (word : Word) (live : Bool) (result : Result Command Refusal) → words ≡ codes "demo" ∷ word ∷ live_words live
     → Answers (IsDemo word live) result → Answers (λ command. Names command words) result

@@ -40,16 +40,8 @@ alone command = Some command
 
 named : (command : Command) (words : List Word) → Names command words → named_by (first_word words) ≡ alone command
 unfolding first_word
-named Check words is = ap (λ (ws : List Word). named_by (first_word ws)) is
-named Follow words is = ap (λ (ws : List Word). named_by (first_word ws)) is
-named Sim words is = ap (λ (ws : List Word). named_by (first_word ws)) is
-named Run words is = ap (λ (ws : List Word). named_by (first_word ws)) is
-named Bundle words is = ap (λ (ws : List Word). named_by (first_word ws)) is
-named Infer words is = ap (λ (ws : List Word). named_by (first_word ws)) is
-named Replay words is = ap (λ (ws : List Word). named_by (first_word ws)) is
-named Show words is = ap (λ (ws : List Word). named_by (first_word ws)) is
-named Upgrade words is = ap (λ (ws : List Word). named_by (first_word ws)) is
 named (Demo number live) words (decimal, spelled, value, small) = ap (λ (ws : List Word). named_by (first_word ws)) spelled
+named command words is = ap (λ (ws : List Word). named_by (first_word ws)) is
 
 alone_is : (one other : Command) → alone other ≡ Some one → other ≡ one
 alone_is one (Demo number live) is = absurd (cc)

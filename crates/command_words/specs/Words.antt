@@ -1,6 +1,7 @@
 -- The grammar of the command line.
 use Rattle.std.specs.Prelude.{◌≡◌, ◌==◌, ◌<◌, ◌≤◌, ◌^◌, ℕ, Bool, true, false, not, if◌then◌else◌, List, [], ◌∷◌, ◌++◌, Option, Some, None, Result, Ok, Err, codes}
 use Rattle.std.specs.List.{flat_map, list_all}
+use Rattle.std.specs.Str.{bytes_eq}
 use Rattle.std.specs.Str.Parse.{IsNumeral, digits_value}
 use Rattle.stride_isa.specs.declared.limits.TheConstants.{FUEL_LIMIT}
 use Rattle.interleavings.specs.declared.limits.TheConstants.{PATIENCE_LIMIT}
@@ -36,10 +37,9 @@ abbrev pub form : Setting → Form
 form fuel = record { name = codes "fuel"; limit = FUEL_LIMIT; kept = λ settings. settings.fuel }
 form patience = record { name = codes "patience"; limit = PATIENCE_LIMIT; kept = λ settings. settings.patience }
 
+-- whether they are one option
 abbrev pub is_same : Setting → Setting → Bool
-is_same fuel fuel = true
-is_same patience patience = true
-is_same _ _ = false
+is_same one other = bytes_eq (form one).name (form other).name
 
 -- what the values of an option set: it stands at most once, with a decimal from 1 to the limit
 abbrev pub Sets : ℕ → List Word → Option ℕ → Type 0
