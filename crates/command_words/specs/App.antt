@@ -17,5 +17,6 @@ positional_rule = record (new_rule (codes "command")) { action = Some Append }
 abbrev pub plain_app : App
 plain_app = on_top (λ shape. record shape { no_binary_name = true; disable_help_flag = true; disable_version_flag = true }) (new_app (codes "stride"))
 
+-- that command with the two options and the positional
 abbrev pub line_app : App
 line_app = with_rule (with_rule (with_rule plain_app (option_rule fuel)) (option_rule patience)) positional_rule

@@ -95,6 +95,7 @@ given_in setting (positional word) = []
 abbrev pub given : Setting → List Item → List Word
 given setting items = flat_map (given_in setting) items
 
+-- the word of a positional
 abbrev pub positional_in : Item → List Word
 positional_in (positional word) = word ∷ []
 positional_in _ = []
@@ -104,6 +105,7 @@ abbrev pub ending : Option (List Word) → List Word
 ending None = []
 ending (Some words) = codes "--" ∷ words
 
+-- the words after it
 abbrev pub behind : Option (List Word) → List Word
 behind None = []
 behind (Some words) = words

@@ -2,7 +2,8 @@
 //!
 //! Owns: the grammar of the words (`Words`), and what they set.
 //! The layer above may rely on the clause of `read_words`: settings are answered exactly for a line of the grammar that has
-//! these settings, `Usage` exactly where the words are no line of it, and of the readings of the words there is one (`Laws`).
+//! these settings, `Usage` only where the words are no line of it, and words have at most one reading (`Laws`). What
+//! `what_is_wrong` tells of refused words, no clause says.
 #![tactic(auto)]
 
 mod command_line;

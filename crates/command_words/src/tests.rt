@@ -1,5 +1,7 @@
 //! What no clause says: that words are read with ample memory, and which, by tables of words.
 use super::*;
+use std::alloc::Global;
+use std::process::Abort;
 use std::test::Fail;
 
 fn plain(command: Command) -> Settings {
@@ -22,8 +24,23 @@ fn run(fuel: Option<u32>, patience: Option<u32>) -> Settings {
     }
 }
 
+/// Each of the words is read as the settings beside them.
+fn all_read(rt: &impl Abort, alloc: Global, lines: &[(&[&str], Settings)]) {
+    for (words, settings) in lines {
+        assert_eq!(rt; read_words(alloc, words), Ok(*settings));
+    }
+}
+
+/// Each of the words is refused, for the fault beside them.
+fn all_refused(rt: &impl Abort, alloc: Global, faulty: &[(&[&str], Fault<'_>)]) {
+    for (words, fault) in faulty {
+        assert_eq!(rt; read_words(alloc, words), Err(Refusal::Usage));
+        assert_eq!(rt; what_is_wrong(words), *fault);
+    }
+}
+
 #[test]
-fn lines_are_read(rt: HostRuntime) -> Result<(), Fail> {
+fn lines_are_read(rt: HostRuntime) {
     let lines: [(&[&str], Settings); 22] = [
         (&["check"], plain(Command::Check)),
         (&["follow"], plain(Command::Follow)),
@@ -69,14 +86,11 @@ fn lines_are_read(rt: HostRuntime) -> Result<(), Fail> {
             },
         ),
     ];
-    for (words, settings) in &lines {
-        assert_eq!(rt; read_words(rt.alloc(), words), Ok(*settings));
-    }
-    Ok(())
+    all_read(&rt, rt.alloc(), &lines);
 }
 
 #[test]
-fn other_words_are_refused(rt: HostRuntime) -> Result<(), Fail> {
+fn other_words_are_refused(rt: HostRuntime) {
     let faulty: [(&[&str], Fault<'_>); 46] = [
         (&[], Fault::NoCommand),
         (&["--"], Fault::NoCommand),
@@ -218,9 +232,36 @@ fn other_words_are_refused(rt: HostRuntime) -> Result<(), Fail> {
             Fault::OneTooMany { word: "live" },
         ),
     ];
-    for (words, fault) in &faulty {
-        assert_eq!(rt; read_words(rt.alloc(), words), Err(Refusal::Usage));
-        assert_eq!(rt; what_is_wrong(words), *fault);
+    all_refused(&rt, rt.alloc(), &faulty);
+}
+
+#[test]
+fn faults_are_told(rt: HostRuntime) -> Result<(), Fail> {
+    let told = [
+        (Fault::NoCommand, "no command is given"),
+        (Fault::UnknownCommand { word: "rum" }, "`rum` is no command"),
+        (Fault::UnknownOption { word: "-x" }, "`-x` is no option"),
+        (Fault::NoValue { option: "fuel" }, "`--fuel` has no value"),
+        (Fault::Twice { option: "fuel" }, "`--fuel` stands twice"),
+        (
+            Fault::OutOfRange {
+                option: "fuel",
+                limit: 1_000_000,
+            },
+            "`--fuel` takes a number from 1 to 1000000",
+        ),
+        (
+            Fault::NoNumber,
+            "`demo` takes a number from 0 to 18446744073709551615",
+        ),
+        (
+            Fault::OneTooMany { word: "live" },
+            "the command takes no word `live`",
+        ),
+        (Fault::Other, "the words are no command line"),
+    ];
+    for (fault, text) in &told {
+        assert_eq!(rt; format!(in rt.alloc(); "{fault}")?.as_str(), *text);
     }
     Ok(())
 }
