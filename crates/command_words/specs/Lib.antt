@@ -1,0 +1,4 @@
+pub mod App
+pub mod Laws
+pub mod Reading
+pub mod Words
