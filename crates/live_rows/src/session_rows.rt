@@ -181,7 +181,7 @@ fn a_loop_ends_out_of_steps(rt: HostRuntime) -> Result<(), Fail> {
         let mut session = Session::reserve(alloc, &program, fuel, 100_000)?;
         session.run_threads(&rt, &OpenGate);
         let taken = session.finish();
-        assert!(rt; taken.ends.as_slice() == [End::OutOfSteps]);
+        assert!(rt; taken.ends.as_slice() == [End::OutOfSteps].as_slice());
         assert!(rt; taken.logs.as_slice().iter().all(|log| log.is_empty()));
     }
     Ok(())
