@@ -186,7 +186,7 @@ fn devices_fail_under_run(rt: HostRuntime) -> Result<(), Fail> {
     let alloc = rt.alloc();
     let (status, held) = ending_by::<Brand, HostRuntime>(&rt, alloc, &[], &[2], Blank::new(1))?;
     assert_eq!(rt; status, 9);
-    assert!(rt; held.as_slice() == b"sche");
+    assert!(rt; held.as_slice() == b"sche".as_slice());
     let (status, held) = ending_by::<Brand, HostRuntime>(&rt, alloc, &[1], &[], Blank::new(1))?;
     assert_eq!(rt; status, 2);
     assert!(rt; held.is_empty());

@@ -23,6 +23,7 @@ pub(crate) struct Hold {
 const TURNS: u32 = 1_048_576;
 
 /// Where threads are held, and to which spots they have come.
+#[derive(Drop)]
 pub(crate) struct Meeting<'h> {
     holds: &'h [Hold],
     /// A bit for each spot of the first eight threads.
@@ -87,6 +88,7 @@ impl Gate for Meeting<'_> {
 }
 
 /// Where each of so many threads waits, at its first read, until all have come there.
+#[derive(Drop)]
 pub(crate) struct Rendezvous {
     threads: u64,
     arrived: AtomicU64,
