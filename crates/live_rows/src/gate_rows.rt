@@ -181,13 +181,22 @@ fn ending_by<L: Ledger, R: Threads + Wait + Sync>(
     Ok((status.code(), sink.bytes().to_vec(alloc)?))
 }
 
+fn ending_of<R: Threads + Wait + Sync>(
+    rt: &R,
+    alloc: Global,
+    failing_reads: &[u32],
+    failing_puts: &[u32],
+) -> Result<(u8, Vec<u8>), Fail> {
+    ending_by::<Brand, R>(rt, alloc, failing_reads, failing_puts, Blank::new(1))
+}
+
 #[test]
 fn devices_fail_under_run(rt: HostRuntime) -> Result<(), Fail> {
     let alloc = rt.alloc();
-    let (status, held) = ending_by::<Brand, HostRuntime>(&rt, alloc, &[], &[2], Blank::new(1))?;
+    let (status, held) = ending_of(&rt, alloc, &[], &[2])?;
     assert_eq!(rt; status, 9);
     assert!(rt; held.as_slice() == b"sche".as_slice());
-    let (status, held) = ending_by::<Brand, HostRuntime>(&rt, alloc, &[1], &[], Blank::new(1))?;
+    let (status, held) = ending_of(&rt, alloc, &[1], &[])?;
     assert_eq!(rt; status, 2);
     assert!(rt; held.is_empty());
     Ok(())

@@ -15,46 +15,60 @@ use std::sync::Wait;
 use std::sync::ledger::{Blank, Ledger};
 use std::test::Fail;
 use std::thread::Threads;
-use stride_base::limits::ORDER_LIMIT;
+use stride_base::limits::{INPUT_LIMIT, ORDER_LIMIT};
 use stride_base::{List, Steps};
 use stride_isa::{Checked, check};
 use thread_rerun::rerun;
 
-/// Each thread reads and writes, again and again, what the others do too.
-const RACE: &str =
-    "push 60\nset 0\ntop:\nread x\npush 1\nadd\nwrite x\nread x\nprint\nread y\ndrop\nget 0\npush 1\nsub\nset 0\nget 0\njnz top\nhalt\n";
+/// What a thread does.
+#[derive(Clone, Copy)]
+enum Code {
+    /// Reads and writes, again and again, what the others do too.
+    Race,
+    /// Reads mostly, in an array as well.
+    Reads,
+    /// Updates of each kind.
+    Updates,
+    /// Two monitors, one within the other.
+    Monitors,
+    /// Runs until its fuel is out.
+    Endless,
+    /// Holds a monitor when it traps, behind the end of an array.
+    Traps,
+    /// Takes two monitors, again and again.
+    OneOrder,
+    /// Takes them in the other order.
+    OtherOrder,
+}
 
-/// Reads mostly, in an array as well.
-const READS: &str =
-    "push 80\nset 0\ntop:\nread x\nread y\nadd\nprint\nget 0\npush 3\nrem\nreadat a\nprint\nget 0\npush 1\nsub\nset 0\nget 0\njnz top\npush 9\nwrite y\nhalt\n";
-
-/// Updates of each kind.
-const UPDATES: &str =
-    "push 40\nset 0\ntop:\npush 1\naddto x\nprint\nget 0\nxchg y\nprint\npush 5\npush 6\ncas x\ndrop\nget 0\npush 1\nsub\nset 0\nget 0\njnz top\nhalt\n";
-
-/// Two monitors, one within the other.
-const MONITORS: &str =
-    "push 30\nset 0\ntop:\nenter m\nread x\npush 1\nadd\nwrite x\nenter n\nread x\nprint\nexit n\nexit m\nget 0\npush 1\nsub\nset 0\nget 0\njnz top\nhalt\n";
-
-/// Runs until its fuel is out.
-const ENDLESS: &str = "top:\nread x\npush 1\nadd\nwrite x\njump top\n";
-
-/// Traps behind the end of an array once enough was counted, holding a monitor.
-const TRAPS: &str =
-    "top:\nenter m\npush 1\naddto x\npush 2\ndiv\npush 7\nwriteat a\nexit m\njump top\n";
-
-/// Takes two monitors in one order, and in the other.
-const ONE_ORDER: &str = "top:\nenter m\nenter n\nread x\nprint\nexit n\nexit m\njump top\n";
-
-const OTHER_ORDER: &str = "top:\nenter n\nenter m\nread y\nprint\nexit m\nexit n\njump top\n";
+fn text_of(code: Code) -> &'static [u8] {
+    match code {
+        Code::Race =>
+            b"push 60\nset 0\ntop:\nread x\npush 1\nadd\nwrite x\nread x\nprint\nread y\ndrop\nget 0\npush 1\nsub\nset 0\nget 0\njnz top\nhalt\n",
+        Code::Reads =>
+            b"push 80\nset 0\ntop:\nread x\nread y\nadd\nprint\nget 0\npush 3\nrem\nreadat a\nprint\nget 0\npush 1\nsub\nset 0\nget 0\njnz top\npush 9\nwrite y\nhalt\n",
+        Code::Updates =>
+            b"push 40\nset 0\ntop:\npush 1\naddto x\nprint\nget 0\nxchg y\nprint\npush 5\npush 6\ncas x\ndrop\nget 0\npush 1\nsub\nset 0\nget 0\njnz top\nhalt\n",
+        Code::Monitors =>
+            b"push 30\nset 0\ntop:\nenter m\nread x\npush 1\nadd\nwrite x\nenter n\nread x\nprint\nexit n\nexit m\nget 0\npush 1\nsub\nset 0\nget 0\njnz top\nhalt\n",
+        Code::Endless => b"top:\nread x\npush 1\nadd\nwrite x\njump top\n",
+        Code::Traps =>
+            b"top:\nenter m\npush 1\naddto x\npush 2\ndiv\npush 7\nwriteat a\nexit m\njump top\n",
+        Code::OneOrder => b"top:\nenter m\nenter n\nread x\nprint\nexit n\nexit m\njump top\n",
+        Code::OtherOrder => b"top:\nenter n\nenter m\nread y\nprint\nexit m\nexit n\njump top\n",
+    }
+}
 
 /// A program of so many threads, which have these codes in turn.
-fn program_of(alloc: Global, codes: &[&str], threads: usize) -> Result<Checked, Fail> {
+fn program_of(alloc: Global, first: Code, second: Code, threads: u32) -> Result<Checked, Fail> {
     let mut text = Vec::new(alloc);
     text.extend_from_slice(b"var x 0\nvar y 0\narray a 3\nmonitor m\nmonitor n\n")?;
-    for code in codes.iter().cycle().take(threads) {
+    for thread in 0..threads {
         text.extend_from_slice(b"thread\n")?;
-        text.extend_from_slice(code.as_bytes())?;
+        text.extend_from_slice(text_of(if thread % 2 == 0 { first } else { second }))?;
+    }
+    if text.len() > INPUT_LIMIT {
+        return Err("a long text")?;
     }
     Ok(check(alloc, assemble(alloc, &text)?)?)
 }
@@ -91,6 +105,16 @@ fn replayed_by<L: Ledger, R: Threads + Wait + Sync>(
     Ok((taken, played))
 }
 
+fn replayed<R: Threads + Wait + Sync>(
+    rt: &R,
+    alloc: Global,
+    program: &Checked,
+    fuel: u32,
+    patience: u32,
+) -> Result<(Taken, Replay), Fail> {
+    replayed_by::<Brand, R>(rt, alloc, program, fuel, patience, Blank::new(1))
+}
+
 // The lines of the transcript that are one thread's, without its number.
 fn lines_of(alloc: Global, transcript: &[u8], thread: usize) -> Result<Vec<u8>, Fail> {
     let prefix = format!(in alloc; "{thread} ")?;
@@ -114,14 +138,7 @@ fn record_again<R: Threads + Wait + Sync + Abort>(
 ) -> Result<u32, Fail> {
     let mut stopped = 0u32;
     for _ in 0..often {
-        let (taken, played) = replayed_by::<Brand, R>(
-            rt,
-            alloc,
-            program,
-            fuel,
-            patience,
-            Blank::new(1),
-        )?;
+        let (taken, played) = replayed(rt, alloc, program, fuel, patience)?;
         assert!(rt; played.ends.as_slice() == taken.ends.as_slice());
         assert!(rt; played.last_values.as_slice() == taken.last_values.as_slice());
         for (thread, output) in taken.outputs.as_slice().iter().enumerate() {
@@ -137,37 +154,49 @@ fn record_again<R: Threads + Wait + Sync + Abort>(
     Ok(stopped)
 }
 
+// Two, four and sixteen threads with these codes: none is stopped.
+fn all_are_replayed<R: Threads + Wait + Sync + Abort>(
+    rt: &R,
+    alloc: Global,
+    first: Code,
+    second: Code,
+) -> Result<(), Fail> {
+    for threads in [2u32, 4, 16] {
+        let program = program_of(alloc, first, second, threads)?;
+        let stopped = record_again(rt, alloc, &program, 100_000, 10_000_000, 10)?;
+        assert_eq!(rt; stopped, 0);
+    }
+    Ok(())
+}
+
 #[test]
 fn threads_that_race_are_replayed(rt: HostRuntime) -> Result<(), Fail> {
     let alloc = rt.alloc();
-    for threads in [2, 4, 16] {
-        for codes in [
-            [RACE, RACE],
-            [READS, RACE],
-            [UPDATES, READS],
-            [MONITORS, UPDATES],
-        ] {
-            let program = program_of(alloc, &codes, threads)?;
-            let stopped = record_again(&rt, alloc, &program, 100_000, 10_000_000, 10)?;
-            assert_eq!(rt; stopped, 0);
-        }
-    }
-    Ok(())
+    all_are_replayed(&rt, alloc, Code::Race, Code::Race)?;
+    all_are_replayed(&rt, alloc, Code::Reads, Code::Race)?;
+    all_are_replayed(&rt, alloc, Code::Updates, Code::Reads)?;
+    all_are_replayed(&rt, alloc, Code::Monitors, Code::Updates)
 }
 
 #[test]
 fn threads_that_do_not_halt_are_replayed(rt: HostRuntime) -> Result<(), Fail> {
     let alloc = rt.alloc();
     // By its fuel each ends, also where that is used up within a few instructions.
-    for fuel in [1, 2, 5, 500] {
-        let program = program_of(alloc, &[ENDLESS, RACE], 4)?;
+    let program = program_of(alloc, Code::Endless, Code::Race, 4)?;
+    for fuel in [1u32, 2, 5, 500] {
         record_again(&rt, alloc, &program, fuel, 10, 10)?;
     }
     // Threads that trap keep their monitor, so that others give up.
-    let program = program_of(alloc, &[TRAPS, MONITORS], 3)?;
+    let program = program_of(alloc, Code::Traps, Code::Monitors, 3)?;
     record_again(&rt, alloc, &program, 1000, 50, 10)?;
-    // Where both take one monitor and wait for the other's, both are stopped; they are so sooner or later.
-    let program = program_of(alloc, &[ONE_ORDER, OTHER_ORDER], 2)?;
+    Ok(())
+}
+
+#[test]
+fn threads_that_wait_for_each_other_are_replayed(rt: HostRuntime) -> Result<(), Fail> {
+    let alloc = rt.alloc();
+    // Sooner or later each takes one monitor and waits for the other's.
+    let program = program_of(alloc, Code::OneOrder, Code::OtherOrder, 2)?;
     let stopped = record_again(&rt, alloc, &program, 100_000, 100, 20)?;
     assert!(rt; stopped > 0);
     Ok(())
