@@ -1,5 +1,5 @@
-//! What is wrong with words that are no line of the grammar, for the one line that tells the user. No clause says it: the words
-//! are refused by `read_words` alone.
+//! What is wrong with words that are no line of the grammar, for the one line that tells the user: a word is told with its line feeds
+//! and other control characters escaped. No clause says it: the words are refused by `read_words` alone.
 
 use crate::values::decimal;
 use interleavings::PATIENCE_LIMIT;
@@ -33,15 +33,23 @@ impl fmt::Display for Fault<'_> {
     fn fmt<W: fmt::Write>(&self, f: &mut fmt::Formatter<W>) -> fmt::Result {
         match self {
             Fault::NoCommand => write!(f, "no command is given"),
-            Fault::UnknownCommand { word } => write!(f, "`{word}` is no command"),
-            Fault::UnknownOption { word } => write!(f, "`{word}` is no option"),
+            Fault::UnknownCommand { word } => {
+                write!(f, "`{word}` is no command", word = word.escape_debug())
+            }
+            Fault::UnknownOption { word } => {
+                write!(f, "`{word}` is no option", word = word.escape_debug())
+            }
             Fault::NoValue { option } => write!(f, "`--{option}` has no value"),
             Fault::Twice { option } => write!(f, "`--{option}` stands twice"),
             Fault::OutOfRange { option, limit } => {
                 write!(f, "`--{option}` takes a number from 1 to {limit}")
             }
             Fault::NoNumber => write!(f, "`demo` takes a number from 0 to {}", u64::MAX),
-            Fault::OneTooMany { word } => write!(f, "the command takes no word `{word}`"),
+            Fault::OneTooMany { word } => write!(
+                f,
+                "the command takes no word `{word}`",
+                word = word.escape_debug()
+            ),
             Fault::Other => write!(f, "the words are no command line"),
         }
     }

@@ -240,6 +240,10 @@ fn faults_are_told(rt: HostRuntime) -> Result<(), Fail> {
     let told = [
         (Fault::NoCommand, "no command is given"),
         (Fault::UnknownCommand { word: "rum" }, "`rum` is no command"),
+        (
+            Fault::UnknownCommand { word: "a\nb" },
+            "`a\\nb` is no command",
+        ),
         (Fault::UnknownOption { word: "-x" }, "`-x` is no option"),
         (Fault::NoValue { option: "fuel" }, "`--fuel` has no value"),
         (Fault::Twice { option: "fuel" }, "`--fuel` stands twice"),
