@@ -1,17 +1,13 @@
 //! Commands under gates: each gate forces what is logged.
-ghost use Rattle.std.specs.Prelude.{◌≡◌, ◌<◌};
 
-use crate::meeting::{Hold, Meeting, Rendezvous, Spot};
-use recorder::{Gate, OpenGate, Point};
+use crate::meeting::{Hold, Meeting, Rendezvous, Slow, Spot};
+use crate::whole_calls::{AMPLE, ending_of};
+use recorder::{Gate, Point};
 use std::alloc::Global;
-use std::marker::Brand;
 use std::process::Abort;
 use std::sync::Wait;
-use std::sync::ledger::{Blank, Ledger};
 use std::test::Fail;
 use std::thread::Threads;
-use stride_base::{MemSink, MemSource, Steps};
-use stride_cli::stride;
 
 /// Thread 0 reads and prints a variable that thread 1 writes.
 const READ_AND_WRITE: &[u8] =
@@ -25,29 +21,7 @@ fn hold(at: Spot, until: Spot) -> Hold {
     Hold { at, until }
 }
 
-// What a command puts, if it is done. Its counter is the caller's.
-fn report_by<L: Ledger, R: Threads + Wait + Sync, G: Gate>(
-    rt: &R,
-    alloc: Global,
-    words: &[&str],
-    input: &[u8],
-    gate: &G,
-    blank: Blank,
-) -> Result<Option<Vec<u8>>, Fail>
-    requires name { blank.name ≡ L.name }
-    requires parts { blank.parts ≡ L.parts }
-    requires some_part { 0 < blank.parts }
-{
-    let mut steps = Steps::<L>::new(rt, blank);
-    let mut source = MemSource::new(alloc, input, &[])?;
-    let mut sink = MemSink::new(alloc, 64, 1000, &[])?;
-    let status = stride(rt, alloc, words, &mut source, &mut sink, gate, &mut steps);
-    if status.code() != 0 {
-        return Ok(None);
-    }
-    Ok(Some(sink.bytes().to_vec(alloc)?))
-}
-
+// What a command puts, if it is done.
 fn report_of<R: Threads + Wait + Sync, G: Gate>(
     rt: &R,
     alloc: Global,
@@ -55,7 +29,12 @@ fn report_of<R: Threads + Wait + Sync, G: Gate>(
     input: &[u8],
     gate: &G,
 ) -> Result<Option<Vec<u8>>, Fail> {
-    report_by::<Brand, R, G>(rt, alloc, words, input, gate, Blank::new(1))
+    let ending = ending_of(rt, alloc, words, input, AMPLE, gate)?;
+    Ok(if ending.code == 0 {
+        Some(ending.held)
+    } else {
+        None
+    })
 }
 
 // What a command puts under the gate that holds threads so, again and again.
@@ -63,12 +42,13 @@ fn is_forced<R: Threads + Wait + Sync + Abort>(
     rt: &R,
     alloc: Global,
     words: &[&str],
+    input: &[u8],
     holds: &[Hold],
     wanted: &[u8],
 ) -> Result<(), Fail> {
     for _ in 0..20u32 {
         let gate = Meeting::new(holds);
-        let report = report_of(rt, alloc, words, READ_AND_WRITE, &gate)?;
+        let report = report_of(rt, alloc, words, input, &gate)?;
         assert!(rt; gate.succeeded());
         let Some(report) = report else {
             return Err("a live command is refused")?;
@@ -106,9 +86,9 @@ const NEW_VALUE: &[u8] = b"schedule 2\n1*1\n0*1\ntranscript\n0 7\nends\n0 halted
 #[test]
 fn gates_force_what_run_replays(rt: HostRuntime) -> Result<(), Fail> {
     let alloc = rt.alloc();
-    is_forced(&rt, alloc, &["run"], &reader_first(), OLD_VALUE)?;
-    is_forced(&rt, alloc, &["run"], &writer_first(), OLD_VALUE)?;
-    is_forced(&rt, alloc, &["run"], &reader_after(), NEW_VALUE)
+    is_forced(&rt, alloc, &["run"], READ_AND_WRITE, &reader_first(), OLD_VALUE)?;
+    is_forced(&rt, alloc, &["run"], READ_AND_WRITE, &writer_first(), OLD_VALUE)?;
+    is_forced(&rt, alloc, &["run"], READ_AND_WRITE, &reader_after(), NEW_VALUE)
 }
 
 /// The bundle of the two threads: the text behind its length, and then a read of this value with bound 1, and write 1.
@@ -126,9 +106,44 @@ fn gates_force_what_bundle_logs(rt: HostRuntime) -> Result<(), Fail> {
     let alloc = rt.alloc();
     let old = bundle_of(alloc, 0)?;
     let new = bundle_of(alloc, 7)?;
-    is_forced(&rt, alloc, &["bundle"], &reader_first(), &old)?;
-    is_forced(&rt, alloc, &["bundle"], &writer_first(), &old)?;
-    is_forced(&rt, alloc, &["bundle"], &reader_after(), &new)
+    is_forced(&rt, alloc, &["bundle"], READ_AND_WRITE, &reader_first(), &old)?;
+    is_forced(&rt, alloc, &["bundle"], READ_AND_WRITE, &writer_first(), &old)?;
+    is_forced(&rt, alloc, &["bundle"], READ_AND_WRITE, &reader_after(), &new)
+}
+
+/// Thread 0 writes a variable within a monitor, which thread 1 enters once it has read another.
+const WRITE_INSIDE: &[u8] =
+    b"var x 0\nvar y 0\nmonitor m\nthread\nenter m\npush 1\nwrite x\nexit m\nhalt\nthread\nread y\ndrop\nenter m\nexit m\nhalt\n";
+
+/// The writer waits within the monitor until the other has found it held.
+fn inside_first() -> [Hold; 2] {
+    [
+        hold(spot(1, Point::BeforeValue), spot(0, Point::AfterMark)),
+        hold(spot(0, Point::AfterMark), spot(1, Point::Held)),
+    ]
+}
+
+#[test]
+fn a_held_monitor_is_waited_for(rt: HostRuntime) -> Result<(), Fail> {
+    is_forced(
+        &rt,
+        rt.alloc(),
+        &["run"],
+        WRITE_INSIDE,
+        &inside_first(),
+        b"schedule 6\n0*3\n1*3\ntranscript\nends\n0 halted\n1 halted\n",
+    )
+}
+
+/// Two threads write the same value, and a third reads it.
+const TWO_WRITERS: &[u8] =
+    b"var x 0\nthread\npush 3\nwrite x\nhalt\nthread\npush 3\nwrite x\nhalt\nthread\nread x\nprint\nhalt\n";
+
+#[test]
+fn threads_that_are_slow_everywhere_are_recorded(rt: HostRuntime) -> Result<(), Fail> {
+    let report = report_of(&rt, rt.alloc(), &["run"], TWO_WRITERS, &Slow)?;
+    assert!(rt; report.is_some());
+    Ok(())
 }
 
 /// Sixteen threads that each read a variable.
@@ -153,51 +168,3 @@ fn sixteen_threads_meet(rt: HostRuntime) -> Result<(), Fail> {
     Ok(())
 }
 
-// How a command on devices that fail at these calls ends, and what the sink then holds. The sink takes four bytes a call.
-fn ending_by<L: Ledger, R: Threads + Wait + Sync>(
-    rt: &R,
-    alloc: Global,
-    failing_reads: &[u32],
-    failing_puts: &[u32],
-    blank: Blank,
-) -> Result<(u8, Vec<u8>), Fail>
-    requires name { blank.name ≡ L.name }
-    requires parts { blank.parts ≡ L.parts }
-    requires some_part { 0 < blank.parts }
-{
-    let mut steps = Steps::<L>::new(rt, blank);
-    let text = b"thread\npush 18446744073709551615\npush 1\nadd\nprint\nhalt\n";
-    let mut source = MemSource::new(alloc, text, failing_reads)?;
-    let mut sink = MemSink::new(alloc, 4, 100, failing_puts)?;
-    let status = stride(
-        rt,
-        alloc,
-        &["run"],
-        &mut source,
-        &mut sink,
-        &OpenGate,
-        &mut steps,
-    );
-    Ok((status.code(), sink.bytes().to_vec(alloc)?))
-}
-
-fn ending_of<R: Threads + Wait + Sync>(
-    rt: &R,
-    alloc: Global,
-    failing_reads: &[u32],
-    failing_puts: &[u32],
-) -> Result<(u8, Vec<u8>), Fail> {
-    ending_by::<Brand, R>(rt, alloc, failing_reads, failing_puts, Blank::new(1))
-}
-
-#[test]
-fn devices_fail_under_run(rt: HostRuntime) -> Result<(), Fail> {
-    let alloc = rt.alloc();
-    let (status, held) = ending_of(&rt, alloc, &[], &[2])?;
-    assert_eq!(rt; status, 9);
-    assert!(rt; held.as_slice() == b"sche".as_slice());
-    let (status, held) = ending_of(&rt, alloc, &[1], &[])?;
-    assert_eq!(rt; status, 2);
-    assert!(rt; held.is_empty());
-    Ok(())
-}

@@ -1,4 +1,4 @@
-//! Gates that hold a thread at a point until another has come to one of its own, or until all have come to theirs.
+//! Gates that hold a thread at a point until another has come to one of its own, until all have come to theirs, or for a while.
 
 use recorder::{Gate, Point};
 use std::sync::Wait;
@@ -123,5 +123,19 @@ impl Gate for Rendezvous {
             yield_now();
         }
         self.late.store(true, Ordering::SeqCst);
+    }
+}
+
+/// How often a slow thread gives up the processor at each point.
+const PAUSE: u32 = 64;
+
+/// Where each thread is slow at every point.
+pub(crate) struct Slow;
+
+impl Gate for Slow {
+    fn at<R: Wait>(&self, _rt: &R, _thread: u32, _point: Point) {
+        for _ in 0..PAUSE {
+            yield_now();
+        }
     }
 }
