@@ -1,0 +1,31 @@
+-- What the words of a line set, and what is answered to them.
+use Rattle.std.proofs.Common.{◌≡◌, ◌≤◌, inl, inr, ℕ, List, Option, Some, None, subst, arith, unwrap_or}
+use Rattle.stride_base.specs.Devices.{Adds, AddsFront}
+use Rattle.command_words.specs.Laws.{OneReading}
+use Rattle.command_words.specs.Words.{IsLine, Sets, Setting, Word, fuel, patience, form, given}
+use Rattle.command_words.specs.declared.settings.Settings.{Settings}
+use Rattle.stride_cli.specs.Answers.{Answer, AnswersWords}
+use Rattle.stride_cli.specs.Settings.{AreInRange, limits_of}
+use Rattle.stride_cli.specs.Words.{OfLine}
+
+within : (limit other : ℕ) (words : List Word) (kept : Option ℕ) → 1 ≤ other → other ≤ limit → Sets limit words kept → (1 ≤ unwrap_or kept other) × (unwrap_or kept other ≤ limit)
+within limit other words None some most is = (some, most)
+within limit other [] (Some n) some most is = absurd is
+within limit other (word ∷ []) (Some n) some most is = (is.1.0, is.1.1)
+within limit other (word ∷ next ∷ words) (Some n) some most is = absurd is
+
+-- what a line sets is in range
+pub in_range : (words : List Word) (settings : Settings) → IsLine words settings → AreInRange (limits_of settings)
+in_range words settings line =
+    let of_fuel = within (form fuel).limit 100000 (given fuel line.items) settings.fuel (omega arith) (omega arith) (line.options fuel) in
+    let of_patience = within (form patience).limit 100000 (given patience line.items) settings.patience (omega arith) (omega arith) (line.options patience) in
+    record { some_fuel = of_fuel.0; fuel = of_fuel.1; some_patience = of_patience.0; patience = of_patience.1 }
+
+-- what holds of one reading of the words holds of each
+pub of_reading : OneReading → (words : List Word) (Holds : Settings → Type 0) (settings : Settings) → IsLine words settings → Holds settings → OfLine words Holds
+of_reading law words Holds settings line holds = λ other also. subst Holds (law words settings other line also) holds
+
+-- the answer to words is that to the settings of their line
+pub of_line : OneReading → (Answers : Settings → Answer → Type 0) (words : List Word) (answer : Answer) → AnswersWords Answers words answer → OfLine words (λ settings. Answers settings answer)
+of_line law Answers words answer (inl is) = of_reading law words (λ settings. Answers settings answer) is.0 is.1.0 is.1.1
+of_line law Answers words answer (inr none) = λ settings line. absurd (none.0 settings line)
