@@ -1,0 +1,2 @@
+//! Demonstrations beside figures that were found by hand.
+use super::*;
