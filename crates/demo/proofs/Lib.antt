@@ -1,1 +1,5 @@
+pub mod CodeLemmas
+pub mod DrawLemmas
 mod Examples
+pub mod ListLemmas
+pub mod WorkerLemmas

@@ -4,7 +4,7 @@ use Rattle.std.specs.List.{AllByRecursion}
 use Rattle.stride_isa.specs.Limits.{thread_limit}
 use Rattle.stride_isa.specs.Listing.{Listing, cell_count, decl_at, first_cell, starts_of}
 use Rattle.stride_isa.specs.Validity.{IsValid}
-use Rattle.demo.specs.Demo.{thread_count, turns}
+use Rattle.demo.specs.Demo.{demo_order, demo_program, thread_count, turns}
 use Rattle.demo.specs.Program.{noise, total}
 
 -- the program of a demonstration with this many threads: it is valid, it has 2 to 16 threads and two cells, which start
@@ -26,3 +26,11 @@ pub record IsDemoOrder (count turns : ℕ) (order : List ℕ) : Type 0 where
   pub named : AllByRecursion (λ thread. thread < count) order
   pub long : length order ≡ turns + turns * count
   pub short : length order ≤ 9000000
+
+-- so is the program of every demonstration
+abbrev pub DemoProgramsAreValid : Type 0
+DemoProgramsAreValid = (number : ℕ) → IsDemoProgram (thread_count number) (demo_program number)
+
+-- and the order of every demonstration
+abbrev pub DemoOrdersNameThreads : Type 0
+DemoOrdersNameThreads = (number : ℕ) → IsDemoOrder (thread_count number) (turns number) (demo_order number)

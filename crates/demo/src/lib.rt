@@ -7,11 +7,13 @@
 #![tactic(auto)]
 
 mod draws;
+mod laws;
 pub mod limits;
 mod orders;
 mod programs;
 mod sizes;
 
+pub use laws::{demo_orders_name_threads, demo_programs_are_valid};
 pub use orders::demo_order;
 pub use programs::demo_program;
 

@@ -6,6 +6,7 @@ ghost use Rattle.demo.specs.Demo.{demo_order, drawn_part, thread_count, turns};
 ghost use Rattle.demo.specs.Laws.{IsDemoOrder};
 
 use crate::draws::{draw_at, next_draw};
+use crate::laws::demo_orders_name_threads;
 use crate::sizes::{place_of, thread_count, turns};
 use std::alloc::Global;
 use stride_base::{List, NoMemory};
@@ -48,8 +49,9 @@ fn push_even(order: &mut List<u8>, threads: u8, times: usize)
 /// The order of the demonstration of a number. Its memory is reserved at once.
 pub fn demo_order(alloc: Global, number: u64) -> Result<List<u8>, NoMemory>
     ensures is { IfOk result (λ order. order.items ≡ demo_order number) }
-    ensures order { IsDemoOrder (thread_count number) (turns number) (demo_order number) }
+    ensures named { IfOk result (λ order. IsDemoOrder (thread_count number) (turns number) order.items) }
 {
+    demo_orders_name_threads();
     let threads = thread_count(number);
     let turns = turns(number);
     let mut order = List::new(alloc);

@@ -8,6 +8,7 @@ ghost use Rattle.demo.specs.Demo.{demo_program, thread_count};
 ghost use Rattle.demo.specs.Laws.{IsDemoProgram};
 ghost use Rattle.demo.specs.Program.{program_of, variable, with_code, worker};
 
+use crate::laws::demo_programs_are_valid;
 use crate::sizes::{amount_of, rounds_of, thread_count};
 use std::alloc::Global;
 use stride_base::NoMemory;
@@ -167,8 +168,9 @@ fn checked(alloc: Global, program: Program) -> Result<Checked, NoMemory>
 /// The program of the demonstration of a number.
 pub fn demo_program(alloc: Global, number: u64) -> Result<Checked, NoMemory>
     ensures is { IfOk result (λ program. program ≡ demo_program number) }
-    ensures program { IsDemoProgram (thread_count number) (demo_program number) }
+    ensures valid { IfOk result (λ program. IsDemoProgram (thread_count number) program) }
 {
+    demo_programs_are_valid();
     let program = listed(alloc, number)?;
     checked(alloc, program)
 }

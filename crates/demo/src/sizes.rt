@@ -5,9 +5,9 @@ ghost use Rattle.demo.specs.Demo.{amount_of, place_of, rounds_of, thread_count, 
 
 use crate::draws::draw_at;
 
-/// The place of a thread's first draw.
+/// The place of a thread's first draw, or after the last thread the place of the order's first draw.
 pub(crate) fn place_of(thread: u8) -> u32
-    requires { thread < thread_limit }
+    requires { thread ≤ thread_limit }
     ensures { result ≡ place_of thread }
 {
     2 + 2 * u32::from(thread)
