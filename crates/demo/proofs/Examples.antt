@@ -1,6 +1,6 @@
 -- The definitions on a demonstration whose figures were found by hand: that of 6116.
-use Rattle.std.proofs.Common.{◌≡◌, ℕ, List, [], ◌∷◌, length, refl}
-use Rattle.demo.specs.Demo.{amount_of, rounds_of, thread_count, threads_of, total_rounds, turns, drawn_thread}
+use Rattle.std.proofs.Common.{◌≡◌, [], ◌∷◌, refl}
+use Rattle.demo.specs.Demo.{amount_of, rounds_of, thread_count, threads_of, total_rounds, turns}
 use Rattle.demo.specs.Draws.{draw}
 
 -- its first draws

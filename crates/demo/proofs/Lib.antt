@@ -2,4 +2,6 @@ pub mod CodeLemmas
 pub mod DrawLemmas
 mod Examples
 pub mod ListLemmas
+pub mod OrderLemmas
+pub mod ProgramLemmas
 pub mod WorkerLemmas

@@ -4,7 +4,7 @@ use Rattle.std.specs.Prelude.{slice_index}
 use Rattle.stride_isa.specs.Instructions.{goes_on, kind, popped}
 use Rattle.stride_isa.specs.Limits.{stack_limit}
 use Rattle.stride_isa.specs.Listing.{Listing, code_of, op_at}
-use Rattle.stride_isa.specs.Validity.{Begin, Follow, IsFine, IsInside, IsValid, Leads, LeadsBy, Names, Reaches, depth_after, target_of}
+use Rattle.stride_isa.specs.Validity.{Begin, Follow, IsInside, IsValid, Leads, LeadsBy, Names, Reaches, depth_after, target_of}
 use Rattle.stride_isa.specs.declared.op.Op.{Op}
 use Rattle.stride_isa.specs.declared.op.Op.TheVariants as ops
 use Rattle.demo.specs.Program.{program_of, worker}
@@ -73,10 +73,57 @@ each_at P first (op ∷ code) each (suc i) lt =
 
 fits_each : (threads : List (List Op)) (rounds amount : ℕ) → EachAt (Fits threads) 0 (worker rounds amount)
 unfolding worker depth_at
-fits_each threads rounds amount = (
-  fits_next threads 0 (ops.Push rounds) refl refl (omega arith) refl (omega arith) (omega arith) tt,
-  (
-    fits_next threads 1 (ops.Set 0) refl refl (omega arith) refl (omega arith) (omega arith) (omega arith),
-    ?,
-  ),
-)
+fits_each threads rounds amount = (fits_next threads 0 (ops.Push rounds) refl refl (omega arith) refl (omega arith) (omega arith) tt, (fits_next threads 1 (ops.Set 0) refl refl (omega arith) refl (omega arith) (omega arith) (omega arith), (fits_next threads 2 (ops.Enter 0) refl refl (omega arith) refl (omega arith) (omega arith) (omega arith), (fits_next threads 3 (ops.Read 0) refl refl (omega arith) refl (omega arith) (omega arith) (omega arith, refl), (fits_next threads 4 (ops.Push amount) refl refl (omega arith) refl (omega arith) (omega arith) tt, (fits_next threads 5 ops.Add refl refl (omega arith) refl (omega arith) (omega arith) tt, (fits_next threads 6 (ops.Write 0) refl refl (omega arith) refl (omega arith) (omega arith) (omega arith, refl), (fits_next threads 7 (ops.Exit 0) refl refl (omega arith) refl (omega arith) (omega arith) (omega arith), (fits_next threads 8 (ops.Read 1) refl refl (omega arith) refl (omega arith) (omega arith) (omega arith, refl), (fits_next threads 9 (ops.Push 1) refl refl (omega arith) refl (omega arith) (omega arith) tt, (fits_next threads 10 ops.Add refl refl (omega arith) refl (omega arith) (omega arith) tt, (fits_next threads 11 (ops.Write 1) refl refl (omega arith) refl (omega arith) (omega arith) (omega arith, refl), (fits_next threads 12 (ops.Get 0) refl refl (omega arith) refl (omega arith) (omega arith) (omega arith), (fits_next threads 13 (ops.Push 1) refl refl (omega arith) refl (omega arith) (omega arith) tt, (fits_next threads 14 ops.Sub refl refl (omega arith) refl (omega arith) (omega arith) tt, (fits_next threads 15 (ops.Set 0) refl refl (omega arith) refl (omega arith) (omega arith) (omega arith), (fits_next threads 16 (ops.Get 0) refl refl (omega arith) refl (omega arith) (omega arith) (omega arith), (fits_jump threads, (fits_halt threads, tt)))))))))))))))))))
+
+starts_empty : depth_at 0 ≡ 0
+unfolding depth_at
+starts_empty = refl
+
+worker_long : (rounds amount : ℕ) → length (worker rounds amount) ≡ 19
+unfolding worker
+worker_long rounds amount = refl
+
+fits_at : (threads : List (List Op)) (rounds amount at : ℕ) (code : List Op) → code ≡ worker rounds amount → at < 19 → Fits threads at (slice_index_or code at ops.Halt)
+fits_at threads rounds amount at code is lt =
+    let there = each_at (Fits threads) 0 (worker rounds amount) (fits_each threads rounds amount) at (omega (arith, worker_long rounds amount)) in
+    rw is (rw zero-add at there)
+
+-- programs of which each thread is a worker
+module _ (threads : List (List Op)) (rounds amount : ℕ → ℕ) (workers : (thread : ℕ) → thread < length threads → slice_index_or threads thread [] ≡ worker (rounds thread) (amount thread)) where
+  long : (thread : ℕ) → thread < length threads → length (code_of (program_of threads) thread) ≡ 19
+  long thread inside = ap length (workers thread inside) ∙ worker_long (rounds thread) (amount thread)
+
+  fits : (thread at : ℕ) → thread < length threads → at < 19 → Fits threads at (op_at (program_of threads) thread at)
+  fits thread at inside lt =
+      fits_at threads (rounds thread) (amount thread) at (code_of (program_of threads) thread) (workers thread inside) lt
+
+  record IsAtDepth (at depth : ℕ) : Type 0 where
+    inside : at < 19
+    depth_is : depth ≡ depth_at at
+
+  reached : (thread at depth : ℕ) → thread < length threads → Reaches (program_of threads) thread at depth → IsAtDepth at depth
+  reached thread _ _ is Begin = record { inside = omega arith; depth_is = sym starts_empty }
+  reached thread _ _ is (Follow at depth next after before inside enough after_is room leads there) =
+      let here = reached thread at depth is before in
+      let fit = fits thread at is here.inside in
+      record {
+        inside = fit.inside next leads;
+        depth_is = after_is ∙ (ap (λ d. depth_after (op_at (program_of threads) thread at) d) here.depth_is ∙ sym (fit.after next leads));
+      }
+
+  pub workers_valid : IsValid (program_of threads)
+  workers_valid = record {
+    code = λ thread is. omega (arith, long thread is);
+    names = λ thread at is inside. (fits thread at is (omega (arith, long thread is))).names;
+    targets = λ thread at is inside. (fits thread at is (omega (arith, long thread is))).target (program_of threads) thread (long thread is);
+    fine = λ thread at depth is r. (
+        let here = reached thread at depth is r in
+        let fit = fits thread at is here.inside in
+        record {
+          enough = rw here.depth_is fit.enough;
+          room = rw here.depth_is fit.room;
+          inside = λ next leads. omega (arith, long thread is, fit.inside next leads);
+          names = fit.names;
+        });
+    one_depth = λ thread at depth other is r s. (reached thread at depth is r).depth_is ∙ sym (reached thread at other is s).depth_is;
+  }

@@ -1,5 +1,5 @@
 -- What holds of the program and the order of every demonstration.
-use Rattle.std.specs.Prelude.{◌≡◌, ℕ, ◌+◌, ◌*◌, ◌<◌, ◌≤◌, List, [], ◌∷◌, length}
+use Rattle.std.specs.Prelude.{◌≡◌, ℕ, ◌+◌, ◌*◌, ◌<◌, ◌≤◌, List, [], ◌∷◌, codes, length}
 use Rattle.std.specs.List.{AllByRecursion}
 use Rattle.stride_isa.specs.Limits.{thread_limit}
 use Rattle.stride_isa.specs.Listing.{Listing, cell_count, decl_at, first_cell, starts_of}
@@ -7,10 +7,12 @@ use Rattle.stride_isa.specs.Validity.{IsValid}
 use Rattle.demo.specs.Demo.{demo_order, demo_program, thread_count, turns}
 use Rattle.demo.specs.Program.{noise, total}
 
--- the program of a demonstration with this many threads: it is valid, it has 2 to 16 threads and two cells, which start
--- with 0, cell 0 is the total and cell 1 the noise
+-- the program of a demonstration with this many threads: it is valid, it has 2 to 16 threads, one monitor and two cells,
+-- which start with 0; cell 0 is the total and cell 1 the noise
 pub record IsDemoProgram (count : ℕ) (p : Listing) : Type 0 where
   pub valid : IsValid p
+  pub decls : p.decls ≡ total ∷ noise ∷ []
+  pub monitors : p.monitors ≡ codes "m" ∷ []
   pub threads : length p.threads ≡ count
   pub some : 2 ≤ count
   pub few : count ≤ thread_limit

@@ -1,6 +1,6 @@
 use Rattle.std.proofs.Common.{◌≡◌, ◌+◌, ◌*◌, ◌<◌, ◌++◌, map}
 use Rattle.std.specs.List.{range_with_len}
-use Rattle.demo.specs.Demo.{drawn_thread, place_of, thread_count}
+use Rattle.demo.specs.Demo.{drawn_thread, place_of}
 use Rattle.demo.specs.Draws.{draw, draw_bound}
 use Rattle.demo.proofs.orders.push_drawn.Given as goal
 
