@@ -1,5 +1,5 @@
 //! The order of a demonstration.
-ghost use Rattle.std.specs.Prelude.{◌≡◌, ◌+◌, ◌*◌, ◌<◌, ◌≤◌, ◌++◌, IfOk, replicate};
+ghost use Rattle.std.specs.Prelude.{◌≡◌, ◌+◌, ◌*◌, ◌%◌, ◌<◌, ◌≤◌, ◌++◌, IfOk, replicate};
 ghost use Rattle.std.specs.List.{concat, range_with_len};
 ghost use Rattle.stride_isa.specs.Limits.{thread_limit};
 ghost use Rattle.demo.specs.Demo.{demo_order, drawn_part, thread_count, turns};
@@ -11,6 +11,14 @@ use crate::sizes::{place_of, thread_count, turns};
 use std::alloc::Global;
 use stride_base::{List, NoMemory};
 
+// The thread that a draw names.
+fn drawn_thread(draw: u32, threads: u8) -> u8
+    requires { 0 < threads }
+    ensures { result ≡ draw % threads }
+{
+    (draw % u32::from(threads)) as u8
+}
+
 // Appends the threads that are drawn.
 fn push_drawn(order: &mut List<u8>, number: u64)
     requires { turns number ≤ order.old.spare }
@@ -21,7 +29,7 @@ fn push_drawn(order: &mut List<u8>, number: u64)
     let mut draw = draw_at(number, place_of(threads) - 1);
     for _ in 0..turns(number) {
         draw = next_draw(draw);
-        order.push_spare((draw % u32::from(threads)) as u8);
+        order.push_spare(drawn_thread(draw, threads));
     }
 }
 

@@ -16,10 +16,10 @@ loop-preserved c = record {
   drawn = next_drawn c;
   items = (
       let first = place_of c.thread_count-threads.result in
-      let thread = c.next_draw-draw.result % c.from.result in
+      let thread = c.drawn_thread.result in
       let same : thread ≡ draw c.args.number (first + c.loop.counter) % thread_count c.args.number = (
       let drawn : c.next_draw-draw.result ≡ draw c.args.number (first + c.loop.counter) = next_drawn c ∙ ap (draw c.args.number) (omega arith) in
-      rw (drawn, c.from.ensures, c.thread_count-threads.ensures.is) refl) in
+      rw (c.drawn_thread.ensures, drawn, c.thread_count-threads.ensures.is) refl) in
       drawn-more c.args.number first c.loop.counter thread c.args.order.now.items c.loop.order.items c.push_spare.new.self.items c.loop.invariant.items same c.push_spare.ensures.items);
   spare = omega arith;
 }
