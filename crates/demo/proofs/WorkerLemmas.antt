@@ -8,6 +8,7 @@ use Rattle.stride_isa.specs.Validity.{Begin, Follow, IsInside, IsValid, Leads, L
 use Rattle.stride_isa.specs.declared.op.Op.{Op}
 use Rattle.stride_isa.specs.declared.op.Op.TheVariants as ops
 use Rattle.demo.specs.Program.{program_of, worker}
+use Rattle.demo.proofs.CodeLemmas.{length-worker}
 
 -- the depth with which a position is reached
 depth_at : ℕ → ℕ
@@ -73,25 +74,72 @@ each_at P first (op ∷ code) each (suc i) lt =
 
 fits_each : (threads : List (List Op)) (rounds amount : ℕ) → EachAt (Fits threads) 0 (worker rounds amount)
 unfolding worker depth_at
-fits_each threads rounds amount = (fits_next threads 0 (ops.Push rounds) refl refl (omega arith) refl (omega arith) (omega arith) tt, (fits_next threads 1 (ops.Set 0) refl refl (omega arith) refl (omega arith) (omega arith) (omega arith), (fits_next threads 2 (ops.Enter 0) refl refl (omega arith) refl (omega arith) (omega arith) (omega arith), (fits_next threads 3 (ops.Read 0) refl refl (omega arith) refl (omega arith) (omega arith) (omega arith, refl), (fits_next threads 4 (ops.Push amount) refl refl (omega arith) refl (omega arith) (omega arith) tt, (fits_next threads 5 ops.Add refl refl (omega arith) refl (omega arith) (omega arith) tt, (fits_next threads 6 (ops.Write 0) refl refl (omega arith) refl (omega arith) (omega arith) (omega arith, refl), (fits_next threads 7 (ops.Exit 0) refl refl (omega arith) refl (omega arith) (omega arith) (omega arith), (fits_next threads 8 (ops.Read 1) refl refl (omega arith) refl (omega arith) (omega arith) (omega arith, refl), (fits_next threads 9 (ops.Push 1) refl refl (omega arith) refl (omega arith) (omega arith) tt, (fits_next threads 10 ops.Add refl refl (omega arith) refl (omega arith) (omega arith) tt, (fits_next threads 11 (ops.Write 1) refl refl (omega arith) refl (omega arith) (omega arith) (omega arith, refl), (fits_next threads 12 (ops.Get 0) refl refl (omega arith) refl (omega arith) (omega arith) (omega arith), (fits_next threads 13 (ops.Push 1) refl refl (omega arith) refl (omega arith) (omega arith) tt, (fits_next threads 14 ops.Sub refl refl (omega arith) refl (omega arith) (omega arith) tt, (fits_next threads 15 (ops.Set 0) refl refl (omega arith) refl (omega arith) (omega arith) (omega arith), (fits_next threads 16 (ops.Get 0) refl refl (omega arith) refl (omega arith) (omega arith) (omega arith), (fits_jump threads, (fits_halt threads, tt)))))))))))))))))))
+fits_each threads rounds amount = (
+  fits_next threads 0 (ops.Push rounds) refl refl (omega arith) refl (omega arith) (omega arith) tt,
+  (
+    fits_next threads 1 (ops.Set 0) refl refl (omega arith) refl (omega arith) (omega arith) (omega arith),
+    (
+      fits_next threads 2 (ops.Enter 0) refl refl (omega arith) refl (omega arith) (omega arith) (omega arith),
+      (
+        fits_next threads 3 (ops.Read 0) refl refl (omega arith) refl (omega arith) (omega arith) (omega arith, refl),
+        (
+          fits_next threads 4 (ops.Push amount) refl refl (omega arith) refl (omega arith) (omega arith) tt,
+          (
+            fits_next threads 5 ops.Add refl refl (omega arith) refl (omega arith) (omega arith) tt,
+            (
+              fits_next threads 6 (ops.Write 0) refl refl (omega arith) refl (omega arith) (omega arith) (omega arith, refl),
+              (
+                fits_next threads 7 (ops.Exit 0) refl refl (omega arith) refl (omega arith) (omega arith) (omega arith),
+                (
+                  fits_next threads 8 (ops.Read 1) refl refl (omega arith) refl (omega arith) (omega arith) (omega arith, refl),
+                  (
+                    fits_next threads 9 (ops.Push 1) refl refl (omega arith) refl (omega arith) (omega arith) tt,
+                    (
+                      fits_next threads 10 ops.Add refl refl (omega arith) refl (omega arith) (omega arith) tt,
+                      (
+                        fits_next threads 11 (ops.Write 1) refl refl (omega arith) refl (omega arith) (omega arith) (omega arith, refl),
+                        (
+                          fits_next threads 12 (ops.Get 0) refl refl (omega arith) refl (omega arith) (omega arith) (omega arith),
+                          (
+                            fits_next threads 13 (ops.Push 1) refl refl (omega arith) refl (omega arith) (omega arith) tt,
+                            (
+                              fits_next threads 14 ops.Sub refl refl (omega arith) refl (omega arith) (omega arith) tt,
+                              (
+                                fits_next threads 15 (ops.Set 0) refl refl (omega arith) refl (omega arith) (omega arith) (omega arith),
+                                (
+                                  fits_next threads 16 (ops.Get 0) refl refl (omega arith) refl (omega arith) (omega arith) (omega arith),
+                                  (fits_jump threads, (fits_halt threads, tt)),
+                                ),
+                              ),
+                            ),
+                          ),
+                        ),
+                      ),
+                    ),
+                  ),
+                ),
+              ),
+            ),
+          ),
+        ),
+      ),
+    ),
+  ),
+)
 
 starts_empty : depth_at 0 ≡ 0
 unfolding depth_at
 starts_empty = refl
 
-worker_long : (rounds amount : ℕ) → length (worker rounds amount) ≡ 19
-unfolding worker
-worker_long rounds amount = refl
-
 fits_at : (threads : List (List Op)) (rounds amount at : ℕ) (code : List Op) → code ≡ worker rounds amount → at < 19 → Fits threads at (slice_index_or code at ops.Halt)
 fits_at threads rounds amount at code is lt =
-    let there = each_at (Fits threads) 0 (worker rounds amount) (fits_each threads rounds amount) at (omega (arith, worker_long rounds amount)) in
+    let there = each_at (Fits threads) 0 (worker rounds amount) (fits_each threads rounds amount) at (omega (arith, length-worker rounds amount)) in
     rw is (rw zero-add at there)
 
 -- programs of which each thread is a worker
 module _ (threads : List (List Op)) (rounds amount : ℕ → ℕ) (workers : (thread : ℕ) → thread < length threads → slice_index_or threads thread [] ≡ worker (rounds thread) (amount thread)) where
   long : (thread : ℕ) → thread < length threads → length (code_of (program_of threads) thread) ≡ 19
-  long thread inside = ap length (workers thread inside) ∙ worker_long (rounds thread) (amount thread)
+  long thread inside = ap length (workers thread inside) ∙ length-worker (rounds thread) (amount thread)
 
   fits : (thread at : ℕ) → thread < length threads → at < 19 → Fits threads at (op_at (program_of threads) thread at)
   fits thread at inside lt =

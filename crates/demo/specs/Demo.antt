@@ -38,8 +38,7 @@ code_of number thread = worker (rounds_of number thread) (amount_of number threa
 unfoldable pub demo_program : ℕ → Listing
 demo_program number = program_of (map (code_of number) (threads_of number))
 
--- how many members of the order are drawn, and how many times it names all threads then: 64 for each round, and a round is
--- fewer atomic steps of its thread than that
+-- how many members of the order are drawn, and how many times it names all threads then: 64 for each round of each thread
 unfoldable pub turns : ℕ → ℕ
 turns number = 64 * total_rounds number
 

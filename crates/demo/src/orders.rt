@@ -54,7 +54,7 @@ fn push_even(order: &mut List<u8>, threads: u8, times: usize)
     }
 }
 
-/// The order of the demonstration of a number. Its memory is reserved at once.
+/// The order of the demonstration of a number: only want of memory refuses it. All of it is reserved before the first member.
 pub fn demo_order(alloc: Global, number: u64) -> Result<List<u8>, NoMemory>
     ensures is { IfOk result (λ order. order.items ≡ demo_order number) }
     ensures named { IfOk result (λ order. IsDemoOrder (thread_count number) (turns number) order.items) }

@@ -14,11 +14,11 @@ use std::alloc::Global;
 use stride_base::NoMemory;
 use stride_isa::{AddError, CheckError, Checked, Decl, Name, Op, Program, Shape, check};
 
-/// The positions of the variables and of the monitor.
+/// The position of the variable `total`.
 const TOTAL: u32 = 0;
-
+/// The position of the variable `noise`.
 const NOISE: u32 = 1;
-
+/// The position of the monitor that guards `total`.
 const MONITOR: u32 = 0;
 /// The local that counts the rounds that are left.
 const ROUNDS_LEFT: u8 = 0;
@@ -165,7 +165,7 @@ fn checked(alloc: Global, program: Program) -> Result<Checked, NoMemory>
     }
 }
 
-/// The program of the demonstration of a number.
+/// The program of the demonstration of a number, checked: only want of memory refuses it.
 pub fn demo_program(alloc: Global, number: u64) -> Result<Checked, NoMemory>
     ensures is { IfOk result (λ program. program ≡ demo_program number) }
     ensures valid { IfOk result (λ program. IsDemoProgram (thread_count number) program) }
