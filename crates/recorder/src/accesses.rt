@@ -144,7 +144,7 @@ pub(crate) fn enter<R: Wait, G: Gate>(
                 if let Some(turn) = try_enter(shared, pass, mon, seen) {
                     return Some(turn);
                 }
-                // Another thread came first, so the next look tells at once that the monitor is held.
+                // Another thread has entered since the look. It may have left again, so only the next look tells whether the monitor is held.
                 looks = 0;
             }
             None => {

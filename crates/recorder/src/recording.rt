@@ -8,7 +8,7 @@ ghost use Rattle.shared_rule.specs.Passes.{IsPassOf, IsSameBeside, monitors_in, 
 
 use crate::accesses::{enter, read, update, write};
 use crate::gate::{Gate, Way};
-use interleavings::{LogEntry, PATIENCE_LIMIT, walks_are_followed, walks_go_on, walks_stand};
+use interleavings::{LogEntry, walks_are_followed, walks_go_on, walks_stand};
 use monitors::leave;
 use sc_machine::limits::LINE_LIMIT;
 use sc_machine::{End, Stop, ThreadRun};
@@ -38,7 +38,6 @@ pub fn record_thread<R: Wait, G: Gate>(
     requires start { run ≡ start_run run.program thread run.fuel }
     requires fuel_limit { run.fuel ≤ FUEL_LIMIT }
     requires patient { 1 ≤ patience }
-    requires patience_limit { patience ≤ PATIENCE_LIMIT }
     requires log { log.old.items ≡ [] }
     requires log_room { run.fuel ≤ log.old.spare }
     requires out { out.old.items ≡ [] }

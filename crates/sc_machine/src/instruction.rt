@@ -596,6 +596,7 @@ pub fn stop_of(
 }
 
 /// Completes a shared instruction, which is given the word that it reads, or 0.
+#[inline(always)]
 pub fn finish(
     op: &Op,
     program: &Checked,

@@ -69,6 +69,7 @@ impl<'p> ThreadRun<'p> {
     /// appended to `out`, which needs room for it. A shared instruction that traps is made here, as a local one.
     ///
     /// At a shared instruction, and after the end, it changes nothing.
+    #[inline(always)]
     pub fn local(&mut self, out: &mut List<u8>) -> Stop
         requires { LINE_LIMIT * (self.old.fuel - self.old.made) ≤ out.old.spare }
         ensures state { state self.new out.new.items
@@ -87,7 +88,7 @@ impl<'p> ThreadRun<'p> {
     }
 
     /// The same as `local`, but does not tell where the thread stands then.
-    #[inline(never)]
+    #[inline(always)]
     pub(crate) fn settle(&mut self, out: &mut List<u8>)
         requires { LINE_LIMIT * (self.old.fuel - self.old.made) ≤ out.old.spare }
         ensures state { state self.new out.new.items
@@ -136,6 +137,7 @@ impl<'p> ThreadRun<'p> {
 
     /// Completes the shared instruction at which the thread stands. The word is there exactly for a read or an
     /// update, which gets it.
+    #[inline(always)]
     pub fn answer(&mut self, word: Option<u64>)
         requires { TakesWord (stop_at self.old) word }
         ensures state { IsAnswered self.old self.new (unwrap_or word 0) }

@@ -1,4 +1,4 @@
-use Rattle.live_rows.proofs.gate_rows.ending_of.Given as goal
+use Rattle.live_rows.proofs.whole_calls.ending_of.Given as goal
 
 -- the ledger of the blank that is made here
 abbrev pub ghosts-ending_by : goal.ghosts-ending_by

@@ -1,0 +1,7 @@
+pub mod CodeLemmas
+pub mod DrawLemmas
+mod Examples
+pub mod ListLemmas
+pub mod OrderLemmas
+pub mod ProgramLemmas
+pub mod WorkerLemmas

@@ -1,0 +1,4 @@
+pub mod Demo
+pub mod Draws
+pub mod Laws
+pub mod Program
