@@ -1,10 +1,11 @@
 -- What holds of the program and the order of every demonstration.
-use Rattle.std.specs.Prelude.{◌≡◌, ℕ, ◌+◌, ◌*◌, ◌<◌, ◌≤◌, List, [], ◌∷◌, codes, length}
+use Rattle.std.specs.Prelude.{◌≡◌, ℕ, ◌+◌, ◌*◌, ◌%◌, ◌^◌, ◌<◌, ◌≤◌, List, [], ◌∷◌, codes, length}
 use Rattle.std.specs.List.{AllByRecursion}
 use Rattle.stride_isa.specs.Limits.{thread_limit}
 use Rattle.stride_isa.specs.Listing.{Listing, cell_count, decl_at, first_cell, starts_of}
 use Rattle.stride_isa.specs.Validity.{IsValid}
 use Rattle.demo.specs.Demo.{demo_order, demo_program, thread_count, turns}
+use Rattle.demo.specs.Draws.{draw, draw_bound}
 use Rattle.demo.specs.Program.{noise, total}
 
 -- the program of a demonstration with this many threads: it is valid, it has 2 to 16 threads, one monitor and two cells,
@@ -36,3 +37,8 @@ DemoProgramsAreValid = (number : ℕ) → IsDemoProgram (thread_count number) (d
 -- and the order of every demonstration
 abbrev pub DemoOrdersNameThreads : Type 0
 DemoOrdersNameThreads = (number : ℕ) → IsDemoOrder (thread_count number) (turns number) (demo_order number)
+
+-- one more than a draw is a power of 75 times one more than the number, as far as remainders by the bound tell: a draw is told
+-- by its place, without those before it
+abbrev pub DrawsArePowers : Type 0
+DrawsArePowers = (number place : ℕ) → (draw number place + 1) % draw_bound ≡ (75 ^ place * (number + 1)) % draw_bound

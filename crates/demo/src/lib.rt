@@ -13,7 +13,7 @@ mod orders;
 mod programs;
 mod sizes;
 
-pub use laws::{demo_orders_name_threads, demo_programs_are_valid};
+pub use laws::{demo_orders_name_threads, demo_programs_are_valid, draws_are_powers};
 pub use orders::demo_order;
 pub use programs::demo_program;
 
