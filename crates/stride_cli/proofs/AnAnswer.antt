@@ -23,16 +23,18 @@ use Rattle.log_format.specs.Bundles.{Bundled}
 use Rattle.log_format.specs.Laws.{FuelIsInRange}
 use Rattle.log_format.specs.Reading.{reading, Refusal as FormatRefusal}
 use Rattle.stride_cli.specs.declared.words.Command.{Command}
-use Rattle.stride_cli.specs.declared.words.Command.TheVariants.{Check, Follow, Infer, Replay, Show, Sim, Upgrade}
+use Rattle.stride_cli.specs.declared.words.Command.TheVariants.{Demo, Check, Follow, Infer, Replay, Show, Sim, Upgrade}
 use Rattle.stride_cli.specs.declared.status.Status.TheVariants.{Bundle, Diverges, Usage, TooLong}
 use Rattle.stride_cli.specs.Answers.{Answer, AnswersBundle, AnswersBy, AnswersInference, AnswersInput, AnswersLinks, AnswersLogs, AnswersProgram, AnswersRun, AnswersSpelled, AnswersVerdict, IsAnswer, circular, done, judged, program_part, refused, refused_code, refused_text, shown, unlinked, upgraded}
 use Rattle.stride_cli.specs.Inferring.{Circular, Diverging, Inference, Inferred, IsInferred, IsInferredBy, IsInferredOf, Ordered, Unlinked}
 use Rattle.stride_cli.specs.Laws.{AnAnswer}
 use Rattle.stride_cli.specs.Reports.{infer_report, replay_report}
 use Rattle.stride_cli.specs.Settings.{Limits, limits_of}
-use Rattle.stride_cli.specs.Words.{HasLine, IsNoLine, offline_named}
+use Rattle.stride_cli.specs.Words.{given, reads, HasLine, IsNoLine, offline_named}
 use Rattle.stride_cli.proofs.LeastRuns.{least_runs}
 use Rattle.stride_cli.proofs.Readings.{in_range}
+use Rattle.demo.specs.Laws.{DemoOrdersNameThreads, DemoProgramsAreValid}
+use Rattle.stride_cli.proofs.Demonstrations.{demo_answer}
 use Rattle.stride_cli.proofs.Simulations.{Laws as Recorded, simulation}
 
 text_answer : HasVerdict → (text : List ℕ) (s : Result Listing LineFault) (accepted : Listing → Answer) → (answer : Answer) × AnswersSpelled text s accepted answer
@@ -47,6 +49,8 @@ pub record Laws : Type 0 where
   pub runs : ExtensionsAreRuns
   pub fuel : FuelIsInRange
   pub recordings : Recorded
+  pub demos : DemoProgramsAreValid
+  pub orders : DemoOrdersNameThreads
 
 -- events come to something
 by_order : (traces : TraceLists) (links : LinkRows) → IsWhole traces links → ((schedule : List ℕ) × IsLeast traces links schedule) ⊎ ((cycle : List Place) × IsTheCycle traces links cycle × IsCycle traces links cycle) → (inference : Inference) × IsInferredOf traces inference
@@ -117,6 +121,7 @@ input_answer there limits some Show bytes = (shown (reading bytes), refl)
 input_answer there limits some Upgrade bytes = (upgraded (reading bytes), refl)
 input_answer there limits some Infer bytes = bundle_answer there bytes AnswersLinks (shown_links there bytes) (reading bytes) refl
 input_answer there limits some Replay bytes = bundle_answer there bytes AnswersRun (shown_run there bytes) (reading bytes) refl
+input_answer there limits some (Demo number) bytes = demo_answer there.recordings there.demos there.orders number
 
 by_length : Laws → (limits : Limits) → 1 ≤ limits.fuel → (too_long : Bool) (command : Command) (bytes : List ℕ) → (answer : Answer) × MatchBool too_long (answer ≡ refused TooLong) (AnswersInput limits command bytes answer)
 by_length there limits some true command bytes = (refused TooLong, refl)
@@ -124,7 +129,9 @@ by_length there limits some false command bytes = input_answer there limits some
 
 by_command : Laws → (limits : Limits) → 1 ≤ limits.fuel → (named : Option Command) (bytes : List ℕ) → (answer : Answer) × AnswersBy limits named bytes answer
 by_command there limits some None bytes = (refused Usage, refl)
-by_command there limits some (Some command) bytes = by_length there limits some (nat_lt INPUT_LIMIT (length bytes)) command bytes
+by_command there limits some (Some command) bytes =
+    let read = given (reads command) bytes in
+    by_length there limits some (nat_lt INPUT_LIMIT (length read)) command read
 
 by_words : Laws → (words : List Word) (bytes : List ℕ) → HasLine words ⊎ IsNoLine words → (answer : Answer) × IsAnswer words bytes answer
 by_words there words bytes (inl line) =

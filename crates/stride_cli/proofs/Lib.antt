@@ -3,6 +3,7 @@ pub mod AnAnswer
 pub mod BundleLengths
 pub mod Bundles
 pub mod BundlesReplayed
+pub mod Demonstrations
 pub mod Events
 pub mod Followed
 pub mod Inferences

@@ -17,7 +17,7 @@ use Rattle.stride_cli.specs.declared.status.ProgramFault.{ProgramFault}
 use Rattle.stride_cli.specs.declared.status.Status.{Status}
 use Rattle.stride_cli.specs.declared.status.Status.TheVariants.{Bundle, Diverges, Done, NoLinkage, NotEnabled, Program}
 use Rattle.stride_cli.specs.declared.words.Command.{Command}
-use Rattle.stride_cli.specs.declared.words.Command.TheVariants.{Check, Follow, Infer, Replay, Show, Sim, Upgrade}
+use Rattle.stride_cli.specs.declared.words.Command.TheVariants.{Check, Demo, Follow, Infer, Replay, Show, Sim, Upgrade}
 use Rattle.stride_cli.specs.Answers.{Answer, AnswersInput, AnswersOrder, AnswersProgram, AnswersRecorded, AnswersSimulated, AnswersSpelled, AnswersVerdict, done, followed, judged, order_of, played, program_part, refused, shown, upgraded, with_order}
 use Rattle.stride_cli.specs.Gives.{Refuses}
 use Rattle.stride_cli.specs.Refusals.{status_of}
@@ -33,6 +33,7 @@ filled Show fact is = is
 filled Upgrade fact is = is
 filled Infer fact is = tt
 filled Replay fact is = tt
+filled (Demo number) fact is = is
 
 -- the status refuses neither a program nor a bundle nor a member of an order
 record IsOfLogs (status : Status) : Type 0 where
@@ -95,6 +96,7 @@ module _ (status : Status) (of_logs : IsOfLogs status) (limits : Limits) where
     no_logs Upgrade is = not_upgraded (reading bytes) is
     no_logs Infer is = tt
     no_logs Replay is = tt
+    no_logs (Demo number) is = of_logs.done (status_is _ _ is.shows)
 
 -- a command that reads no logs refuses none
 refuses_no_logs : (limits : Limits) (command : Command) (bytes : List ℕ) (refusal : Refusal) → Refuses limits command bytes refusal → OnLogless (Some command) (RefusesNoLogs (status_of refusal))

@@ -13,7 +13,7 @@ use Rattle.stride_cli.specs.declared.status.MemberFault.{MemberFault}
 use Rattle.stride_cli.specs.declared.status.Status.{Status}
 use Rattle.stride_cli.specs.declared.status.Status.TheVariants.{NotEnabled}
 use Rattle.stride_cli.specs.declared.words.Command.{Command}
-use Rattle.stride_cli.specs.declared.words.Command.TheVariants.{Check, Follow, Infer, Replay, Show, Sim, Upgrade}
+use Rattle.stride_cli.specs.declared.words.Command.TheVariants.{Check, Demo, Follow, Infer, Replay, Show, Sim, Upgrade}
 use Rattle.stride_cli.specs.Answers.{Answer, AnswersBundle, AnswersInference, AnswersInput, AnswersLinks, AnswersLogs, AnswersProgram, AnswersRun, AnswersSpelled, AnswersVerdict, done, judged, refused, shown, unlinked, upgraded}
 use Rattle.stride_cli.specs.Gives.{Refuses}
 use Rattle.stride_cli.specs.Inferring.{Circular, Diverging, Inference, Inferred, Ordered, Unlinked}
@@ -30,6 +30,7 @@ filled Show fact is = is
 filled Upgrade fact is = is
 filled Infer fact is = is
 filled Replay fact is = is
+filled (Demo number) fact is = is
 
 module _ (place : ℕ) (fault : MemberFault) where
   -- the refusal of a member
@@ -96,6 +97,7 @@ module _ (place : ℕ) (fault : MemberFault) where
   no_member limits Upgrade bytes is = not_upgraded (reading bytes) is
   no_member limits Infer bytes is = not_bundle AnswersLinks not_links (reading bytes) is
   no_member limits Replay bytes is = not_bundle AnswersRun not_run (reading bytes) is
+  no_member limits (Demo number) bytes is = let e = ap (λ (answer : Answer). answer.status) is.shows in cc
 
 -- a command that reads no order refuses no member of one
 refuses_no_member : (limits : Limits) (command : Command) (bytes : List ℕ) (refusal : Refusal) → Refuses limits command bytes refusal → OnOrderless (Some command) (RefusesNoMember (status_of refusal))

@@ -16,13 +16,14 @@ use Rattle.log_format.specs.Bundles.{Bundled}
 use Rattle.log_format.specs.Reading.{reading, Refusal as FormatRefusal}
 use Rattle.assembler.specs.Programs.{LineFault, spelled}
 use Rattle.stride_cli.specs.declared.words.Command.{Command}
-use Rattle.stride_cli.specs.declared.words.Command.TheVariants.{Check, Follow, Infer, Replay, Show, Sim, Upgrade}
+use Rattle.stride_cli.specs.declared.words.Command.TheVariants.{Demo, Check, Follow, Infer, Replay, Show, Sim, Upgrade}
 use Rattle.stride_cli.specs.Answers.{Answer, AnswersBundle, AnswersBy, AnswersInference, AnswersInput, AnswersLinks, AnswersLogs, AnswersOrder, AnswersProgram, AnswersRecorded, AnswersRecording, AnswersRun, AnswersSettings, AnswersSimulated, AnswersSpelled, AnswersVerdict, IsAnswer, done, judged, order_of, program_part, setting_of}
 use Rattle.stride_cli.specs.Inferring.{Circular, Diverging, Inference, Inferred, Ordered, Unlinked}
 use Rattle.stride_cli.specs.Laws.{OneAnswer}
 use Rattle.stride_cli.specs.Reports.{replay_report, sim_report}
 use Rattle.stride_cli.specs.Settings.{Limits, limits_of}
-use Rattle.stride_cli.specs.Words.{offline_named}
+use Rattle.stride_cli.specs.Words.{given, reads, offline_named}
+use Rattle.stride_cli.proofs.Demonstrations.{one_demo}
 use Rattle.stride_cli.proofs.Inferences.{Laws, one_inference}
 use Rattle.stride_cli.proofs.Readings.{of_line}
 
@@ -116,6 +117,7 @@ one_input laws one limits Upgrade bytes answer other is same = is ∙ sym same
 one_input laws one limits Infer bytes answer other is same =
     by_reading laws one AnswersLinks (λ p bundle inferred answer other is same. is ∙ sym same) (reading bytes) answer other is same
 one_input laws one limits Replay bytes answer other is same = by_reading laws one AnswersRun one_run (reading bytes) answer other is same
+one_input laws one limits (Demo number) bytes answer other is same = one_demo laws number answer other is same
 
 by_length : Laws → OneVerdict → (limits : Limits) (too_long : Bool) (command : Command) (bytes : List ℕ) (refusal answer other : Answer) → MatchBool too_long (answer ≡ refusal) (AnswersInput limits command bytes answer) → MatchBool too_long (other ≡ refusal) (AnswersInput limits command bytes other) → answer ≡ other
 by_length laws one limits true command bytes refusal answer other is same = is ∙ sym same
@@ -124,7 +126,8 @@ by_length laws one limits false command bytes refusal answer other is same = one
 by_command : Laws → OneVerdict → (limits : Limits) (named : Option Command) (bytes : List ℕ) (answer other : Answer) → AnswersBy limits named bytes answer → AnswersBy limits named bytes other → answer ≡ other
 by_command laws one limits None bytes answer other is same = is ∙ sym same
 by_command laws one limits (Some command) bytes answer other is same =
-    by_length laws one limits (nat_lt INPUT_LIMIT (length bytes)) command bytes _ answer other is same
+    let read = given (reads command) bytes in
+    by_length laws one limits (nat_lt INPUT_LIMIT (length read)) command read _ answer other is same
 
 by_words : OneReading → Laws → OneVerdict → (words : List Word) (bytes : List ℕ) (answer other : Answer) → IsAnswer words bytes answer → IsAnswer words bytes other → answer ≡ other
 by_words reading laws one words bytes answer other (inl is) same =

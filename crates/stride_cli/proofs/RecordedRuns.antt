@@ -1,12 +1,13 @@
 -- What `run` reports is the replay of the recording that was made.
-use Rattle.std.proofs.Common.{◌≡◌, ◌∙◌, inl, inr, ℕ, ◌+◌, ◌≤◌, ◌++◌, List, Some, Result, Ok, Err, sym, ap, subst, arith, length}
+use Rattle.std.proofs.Common.{◌≡◌, ◌∙◌, inl, inr, ℕ, ◌+◌, ◌≤◌, ◌++◌, List, Some, Result, Ok, Err, refl, sym, ap, subst, arith, length}
 use Rattle.std.proofs.lemmas.List.{length-map}
 use Rattle.stride_isa.specs.Listing.{Listing}
 use Rattle.stride_isa.specs.Validity.{IsValid}
 use Rattle.assembler.specs.Programs.{LineFault, spelled}
 use Rattle.interleavings.specs.declared.event.LogEntry.{LogEntry}
 use Rattle.interleavings.specs.declared.traces.Place.{Place}
-use Rattle.interleavings.specs.Following.{follow_all}
+use Rattle.interleavings.specs.Following.{Divergence, Followed, follow_all}
+use Rattle.interleavings.specs.Recording.{Recording}
 use Rattle.interleavings.specs.TraceLists.{TraceLists}
 use Rattle.linkage.specs.Sources.{event_count}
 use Rattle.event_order.specs.Laws.{ExtensionsAreWhole}
@@ -17,12 +18,12 @@ use Rattle.stride_cli.specs.declared.words.Live.TheVariants.{Run}
 use Rattle.stride_cli.specs.Again.{AreRecorded, IsLogged, IsRunAgain}
 use Rattle.stride_cli.specs.Answers.{done, setting_of}
 use Rattle.stride_cli.specs.Headline.{IsRecordedRun, look_limit}
-use Rattle.stride_cli.specs.Inferring.{Inferred, IsInferredOf, Ordered}
+use Rattle.stride_cli.specs.Inferring.{Inferred, IsInferred, IsInferredBy, IsInferredOf, Ordered}
 use Rattle.stride_cli.specs.LiveAnswers.{AnswersLiveInput}
 use Rattle.stride_cli.specs.LiveLooks.{LiveLooks, RunLooks}
 use Rattle.stride_cli.specs.Looks.{inferring_looks}
-use Rattle.stride_cli.specs.Playing.{IsPlayed}
-use Rattle.stride_cli.specs.Reports.{replay_report, schedule_section}
+use Rattle.stride_cli.specs.Playing.{IsPlayed, TellsSummary}
+use Rattle.stride_cli.specs.Reports.{replay_report, schedule_section, summary_report}
 use Rattle.stride_cli.specs.Runs.{run_section}
 use Rattle.stride_cli.specs.Settings.{Limits}
 use Rattle.stride_cli.proofs.LivePrograms.{to_program}
@@ -50,6 +51,18 @@ whole_schedule law traces inferred is =
     let least = is.1 in
     ap length least.of_places ∙ (length-map least.places (λ (at : Place). at.thread) ∙ law traces inferred.links least.places least.extends)
 
+-- a schedule that logs come to is one of their recording
+schedule_of : (limits : Limits) (p : Listing) (recording : Recording) (inferred : Inferred) (r : Result (List Followed) Divergence) → follow_all p limits.fuel recording.logs ≡ r → IsInferredBy p r (Ordered inferred) → IsScheduleOf (setting_of limits p) recording inferred.schedule
+schedule_of limits p recording inferred (Err divergence) follows is = absurd (cc)
+schedule_of limits p recording inferred (Ok all) follows is = record { all = all; follows = follows; links = inferred.links; whole = is.0; least = is.1 }
+
+-- so many looks were enough to find the schedule
+pub found_within : ExtensionsAreWhole → (traces : TraceLists) (inferred : Inferred) (before after : ℕ) → IsInferredOf traces (Ordered inferred) → after ≤ before + inferring_looks traces → after ≤ before + look_limit (length inferred.schedule)
+found_within whole traces inferred before after is looks =
+    let long = whole_schedule whole traces inferred is in
+    let enough = looks_enough traces in
+    rw (long, sym enough) looks
+
 module _ (limits : Limits) (p : Listing) (logs : List (List LogEntry)) (traces : TraceLists) (logged : IsLogged limits p logs) (again : IsRunAgain p limits.fuel logs traces) where
   -- the threads follow the logs of the recording
   follows : follow_all p limits.fuel logged.recording.logs ≡ Ok again.all
@@ -63,16 +76,13 @@ module _ (limits : Limits) (p : Listing) (logs : List (List LogEntry)) (traces :
       record { all = again.all; follows = follows; links = inferred.links; whole = whole.0; least = whole.1 }
 
   -- the report is that of the recording's replay
-  pub run_found : ExtensionsAreWhole → SchedulesReplayRecordings → (inferred : Inferred) (results : Results) (report : List ℕ) (before after : ℕ) → IsPlayed p limits.fuel traces inferred results → report ≡ schedule_section inferred.schedule ++ run_section results → after ≤ before + inferring_looks traces → IsRecordedRun limits p report before after
+  pub run_found : ExtensionsAreWhole → SchedulesReplayRecordings → (inferred : Inferred) (results : Results) (report : List ℕ) (before after : ℕ) → IsPlayed p limits.fuel traces inferred results → report ≡ schedule_section inferred.schedule ++ run_section results → after ≤ before + inferring_looks traces → IsRecordedRun limits p replay_report report before after
   run_found whole replays inferred results report before after is put looks =
       let plays = is.run in
       let inferring = is_inferred inferred is.ordered in
       let replay = replays (setting_of limits p) logged.recording inferred.schedule again.valid again.some logged.recorded inferring in
       let same : plays.machine ≡ replay.0 = some_same (sym plays.runs ∙ replay.1.runs) in
       let shown : report ≡ replay_report inferred.schedule plays.machine = put ∙ ap (λ (r : Results). schedule_section inferred.schedule ++ run_section r) plays.shows in
-      let long = whole_schedule whole traces inferred is.ordered in
-      let enough = looks_enough traces in
-      let found : after ≤ before + look_limit (length inferred.schedule) = rw (long, sym enough) looks in
       record {
         recording = logged.recording;
         recorded = logged.recorded;
@@ -81,7 +91,7 @@ module _ (limits : Limits) (p : Listing) (logs : List (List LogEntry)) (traces :
         machine = replay.0;
         replay = replay.1;
         reported = shown ∙ ap (replay_report inferred.schedule) same;
-        found = found;
+        found = found_within whole traces inferred before after is.ordered looks;
       }
 
   -- no more looks were taken than are enough for the recording's events
@@ -98,9 +108,9 @@ pub text_looks : (limits : Limits) (bytes : List ℕ) (p : Listing) (before afte
 text_looks limits bytes p before after spells is = let Q : Result Listing LineFault → Type 0 = λ s. RunLooks limits s before after in subst Q (sym spells) is
 
 -- such a report is the answer
-pub run_answers : (limits : Limits) (bytes : List ℕ) (p : Listing) (report : List ℕ) (before after : ℕ) → spelled bytes ≡ Ok p → IsValid p → IsRecordedRun limits p report before after → AnswersLiveInput limits Run bytes (done report)
+pub run_answers : (limits : Limits) (bytes : List ℕ) (p : Listing) (report : List ℕ) (before after : ℕ) → spelled bytes ≡ Ok p → IsValid p → IsRecordedRun limits p replay_report report before after → AnswersLiveInput limits Run bytes (done report)
 run_answers limits bytes p report before after spells valid run =
-    to_program limits Run bytes p (done report) spells valid (record { recording = run.recording; recorded = run.recorded; schedule = run.schedule; inferred = run.inferred; machine = run.machine; runs = run.replay.runs; shows = ap done run.reported })
+    to_program limits Run refl bytes p (done report) spells valid (record { recording = run.recording; recorded = run.recorded; schedule = run.schedule; inferred = run.inferred; machine = run.machine; runs = run.replay.runs; shows = ap done run.reported })
 
 -- where no look was taken
 unmoved : (limits : Limits) (s : Result Listing LineFault) (before after : ℕ) → after ≡ before → RunLooks limits s before after
@@ -109,3 +119,22 @@ unmoved limits (Err fault) before after same = same
 
 pub no_looks : (limits : Limits) (bytes : List ℕ) (before after : ℕ) → after ≡ before → LiveLooks limits Run bytes before after
 no_looks limits bytes before after same = unmoved limits (spelled bytes) before after same
+
+-- the summary of a recording's logs is that of its replay
+pub summary_run : SchedulesReplayRecordings → (limits : Limits) (p : Listing) (logs : List (List LogEntry)) (report : List ℕ) (before after : ℕ) → IsValid p → 1 ≤ limits.fuel → IsLogged limits p logs → TellsSummary p limits.fuel logs report before after
+    → IsRecordedRun limits p (summary_report p) report before after
+summary_run replays limits p logs report before after valid some logged told =
+    let P : List (List LogEntry) → Type 0 = λ logs. IsInferred p limits.fuel logs (Ordered told.inferred) in
+    let inferring = schedule_of limits p logged.recording told.inferred (follow_all p limits.fuel logged.recording.logs) refl (subst P (sym logged.logs_are) told.ordered) in
+    let replay = replays (setting_of limits p) logged.recording told.inferred.schedule valid some logged.recorded inferring in
+    let same : told.machine ≡ replay.0 = some_same (sym told.runs ∙ replay.1.runs) in
+    record {
+      recording = logged.recording;
+      recorded = logged.recorded;
+      schedule = told.inferred.schedule;
+      inferred = inferring;
+      machine = replay.0;
+      replay = replay.1;
+      reported = told.shows ∙ ap (summary_report p told.inferred.schedule) same;
+      found = told.found;
+    }

@@ -1,5 +1,5 @@
 -- The answer of `sim` to an input, by what became of its program, its order and its recording.
-use Rattle.std.proofs.Common.{◌≡◌, ◌∙◌, ◌++◌, ℕ, List, [], Option, None, Result, Ok, Err, refl, sym, ap, subst, length, append_assoc}
+use Rattle.std.proofs.Common.{◌≡◌, ◌∙◌, ◌++◌, ℕ, ◌+◌, ◌≤◌, List, [], Option, None, Result, Ok, Err, refl, sym, ap, subst, length, slice_index, append_assoc}
 use Rattle.stride_isa.specs.Listing.{Listing}
 use Rattle.stride_isa.specs.Validity.{IsValid}
 use Rattle.interleavings.specs.declared.driven.DriveError.{DriveError}
@@ -21,10 +21,12 @@ use Rattle.stride_cli.specs.Answers.{Answer, AnswersInput, AnswersOrder, Answers
 use Rattle.stride_cli.specs.Gives.{Refuses}
 use Rattle.stride_cli.specs.Inferring.{Inferred, IsInferredBy, IsInferredOf, Ordered}
 use Rattle.stride_cli.specs.Inputs.{Accepts, IsInput}
-use Rattle.stride_cli.specs.Looks.{followed_looks, printing_looks, simulated_looks}
-use Rattle.stride_cli.specs.Playing.{IsPlayed, TellsLogs}
+use Rattle.stride_cli.specs.Looks.{followed_looks, inferring_looks, printing_looks, simulated_looks}
+use Rattle.event_order.specs.Laws.{ExtensionsAreWhole}
+use Rattle.stride_cli.proofs.RecordedRuns.{found_within}
+use Rattle.stride_cli.specs.Playing.{IsPlayed, TellsLogs, TellsSummary}
 use Rattle.stride_cli.specs.Refusals.{of_drive}
-use Rattle.stride_cli.specs.Reports.{links_section, logs_section, schedule_section, sim_report}
+use Rattle.stride_cli.specs.Reports.{halted_count, links_section, logs_section, schedule_section, sim_report, summary_lines}
 use Rattle.stride_cli.specs.Runs.{run_section}
 use Rattle.stride_cli.specs.Settings.{Limits}
 use Rattle.stride_cli.proofs.Bundles.{only_programs, unaccepted}
@@ -118,3 +120,20 @@ tells_logs p fuel logs traces inferred results report again played put =
 -- the share of logs that were followed
 pub again_looks : (p : Listing) (fuel : ℕ) (logs : List (List LogEntry)) (traces : TraceLists) → IsRunAgain p fuel logs traces → followed_looks printing_looks p (follow_all p fuel logs) ≡ printing_looks traces
 again_looks p fuel logs traces again = ap (followed_looks printing_looks p) again.follows ∙ ap printing_looks (sym again.traces_are)
+
+-- the report tells the summary of logs that were followed, linked, ordered and run
+pub tells_summary : ExtensionsAreWhole → (p : Listing) (fuel : ℕ) (logs : List (List LogEntry)) (traces : TraceLists) (inferred : Inferred) (results : Results) (report : List ℕ) (before after : ℕ) → IsRunAgain p fuel logs traces → IsPlayed p fuel traces inferred results
+    → report ≡ summary_lines (length p.threads) (length inferred.schedule) (halted_count results.ends) (slice_index results.last_values 0) → after ≤ before + inferring_looks traces → TellsSummary p fuel logs report before after
+tells_summary whole p fuel logs traces inferred results report before after again played put looks =
+    let P : TraceLists → Type 0 = λ traces. IsInferredOf traces (Ordered inferred) in
+    let Q : Result (List Followed) Divergence → Type 0 = λ r. IsInferredBy p r (Ordered inferred) in
+    let plays = played.run in
+    let shown = put ∙ ap (λ (r : Results). summary_lines (length p.threads) (length inferred.schedule) (halted_count r.ends) (slice_index r.last_values 0)) plays.shows in
+    record {
+      inferred = inferred;
+      ordered = subst Q (sym again.follows) (subst P again.traces_are played.ordered);
+      machine = plays.machine;
+      runs = plays.runs;
+      shows = shown;
+      found = found_within whole traces inferred before after played.ordered looks;
+    }

@@ -54,7 +54,7 @@ module _ (laws : Laws) (limits : Limits) (some : 1 ≤ limits.fuel) (p : Listing
       laws.events setting recording (whole_run setting order).steps (laws.history setting order known) again
       (laws.range p limits.fuel recording.logs again.followed valid some again.follows)
 
-  recording_answer : (answer : Answer) × AnswersRecording limits p recording answer
+  pub recording_answer : (answer : Answer) × AnswersRecording limits p recording answer
   recording_answer =
       let found = laws.orders (whole_run setting order).steps (traces_of p followed) are_events in
       let inferred : Inferred = record { links = found.0; schedule = found.2.0 } in

@@ -8,6 +8,7 @@ use Rattle.sc_machine.specs.Schedule.{refused_place, replayed}
 use Rattle.interleavings.specs.declared.traces.Place.{Place}
 use Rattle.interleavings.specs.Driving.{driven, stranger}
 use Rattle.interleavings.specs.Recording.{Recording, Setting}
+use Rattle.demo.specs.Demo.{demo_order, demo_program}
 use Rattle.log_format.specs.Bundles.{Bundled}
 use Rattle.log_format.specs.Reading.{reading, Refusal as FormatRefusal}
 use Rattle.log_format.specs.Spelling.{spelling}
@@ -23,7 +24,7 @@ use Rattle.command_words.specs.declared.settings.Settings.{Settings}
 use Rattle.linkage.specs.declared.link_error.LinkError.{LinkError}
 use Rattle.linkage.specs.declared.link_error.LinkError.TheVariants as links
 use Rattle.stride_cli.specs.declared.words.Command.{Command}
-use Rattle.stride_cli.specs.declared.words.Command.TheVariants.{Check, Follow, Infer, Replay, Show, Sim, Upgrade}
+use Rattle.stride_cli.specs.declared.words.Command.TheVariants.{Check, Demo, Follow, Infer, Replay, Show, Sim, Upgrade}
 use Rattle.stride_cli.specs.declared.status.LinkageFault.TheVariants as faults
 use Rattle.stride_cli.specs.declared.status.MemberFault.{MemberFault}
 use Rattle.stride_cli.specs.declared.status.MemberFault.TheVariants.{NoThread, CannotGoOn}
@@ -31,9 +32,9 @@ use Rattle.stride_cli.specs.declared.status.Status.{Status}
 use Rattle.stride_cli.specs.declared.status.Status.TheVariants.{Done, Usage, TooLong, Program, Bundle, Diverges, NoLinkage, NoMemory, NotEnabled}
 use Rattle.stride_cli.specs.declared.status.ProgramFault.TheVariants.{Text, Code}
 use Rattle.stride_cli.specs.Inferring.{Inference, Unlinked, Circular, Diverging, Ordered, Inferred, IsInferred}
-use Rattle.stride_cli.specs.Reports.{follow_report, infer_report, replay_report, show_report, sim_report}
-use Rattle.stride_cli.specs.Settings.{Limits, limits_of}
-use Rattle.stride_cli.specs.Words.{IsNoLine, offline_named}
+use Rattle.stride_cli.specs.Reports.{follow_report, infer_report, replay_report, show_report, sim_report, summary_report}
+use Rattle.stride_cli.specs.Settings.{demo_limits, Limits, limits_of}
+use Rattle.stride_cli.specs.Words.{given, reads, IsNoLine, offline_named}
 
 -- how a command ends, and what it puts
 pub record Answer : Type 0 where
@@ -174,6 +175,18 @@ AnswersRecorded limits p (Some place) recording answer = answer ≡ refused (Not
 abbrev pub AnswersSimulated : Limits → Listing → List ℕ → Answer → Type 0
 AnswersSimulated limits p order answer = AnswersRecorded limits p (stranger (length p.threads) order) (driven (setting_of limits p) order) answer
 
+-- the recording of a demonstration, by its order
+abbrev pub demo_recording : ℕ → Recording
+demo_recording number = driven (setting_of demo_limits (demo_program number)) (demo_order number)
+
+-- what a demonstration answers: the summary of the run by the schedule to which the logs of its recording come
+pub record AnswersDemo (number : ℕ) (answer : Answer) : Type 0 where
+  pub inferred : Inferred
+  pub ordered : IsInferred (demo_program number) demo_limits.fuel (demo_recording number).logs (Ordered inferred)
+  pub machine : Machine
+  pub runs : replayed (demo_program number) demo_limits.fuel inferred.schedule ≡ Some machine
+  pub shows : answer ≡ done (summary_report (demo_program number) inferred.schedule machine)
+
 -- the answer to an order, where it is spelled, or the refusal of its first fault
 abbrev pub AnswersOrder : Result (List ℕ) LineFault → (List ℕ → Answer → Type 0) → Answer → Type 0
 AnswersOrder (Err fault) Answers answer = answer ≡ refused_text fault
@@ -203,11 +216,13 @@ AnswersInput limits Show bytes answer = answer ≡ shown (reading bytes)
 AnswersInput limits Upgrade bytes answer = answer ≡ upgraded (reading bytes)
 AnswersInput limits Infer bytes answer = AnswersBundle AnswersLinks (reading bytes) answer
 AnswersInput limits Replay bytes answer = AnswersBundle AnswersRun (reading bytes) answer
+AnswersInput limits (Demo number) bytes answer = AnswersDemo number answer
 
--- the answer of a command, if there is one, to an input of any length
+-- the answer of a command, if there is one, to an input of any length, of which it may read nothing
 abbrev pub AnswersBy : Limits → Option Command → List ℕ → Answer → Type 0
 AnswersBy limits None bytes answer = answer ≡ refused Usage
-AnswersBy limits (Some command) bytes answer = MatchBool (nat_lt INPUT_LIMIT (length bytes)) (answer ≡ refused TooLong) (AnswersInput limits command bytes answer)
+AnswersBy limits (Some command) bytes answer =
+    MatchBool (nat_lt INPUT_LIMIT (length (given (reads command) bytes))) (answer ≡ refused TooLong) (AnswersInput limits command (given (reads command) bytes) answer)
 
 -- the answer to settings and the bytes of the input
 abbrev pub AnswersSettings : List ℕ → Settings → Answer → Type 0

@@ -3,16 +3,18 @@ use Rattle.std.specs.Prelude.{◌≡◌, ℕ, List, Result, Ok, Err}
 use Rattle.stride_base.specs.Listed.{Listed}
 use Rattle.stride_isa.specs.Listing.{Listing}
 use Rattle.stride_isa.specs.Validity.{IsValid}
+use Rattle.demo.specs.Demo.{demo_program}
 use Rattle.assembler.specs.Programs.{spelled}
 use Rattle.stride_cli.specs.declared.refusal.Refusal.{Refusal}
 use Rattle.stride_cli.specs.declared.refusal.Refusal.TheVariants.{NoMemory, Program}
 use Rattle.stride_cli.specs.declared.status.Status.TheVariants as statuses
 use Rattle.stride_cli.specs.declared.words.Live.{Live}
-use Rattle.stride_cli.specs.declared.words.Live.TheVariants.{Bundle, Run}
+use Rattle.stride_cli.specs.declared.words.Live.TheVariants.{Bundle, Demo, Run}
 use Rattle.stride_cli.specs.Answers.{done, refused}
 use Rattle.stride_cli.specs.Headline.{IsRecordedRun}
 use Rattle.stride_cli.specs.LiveAnswers.{AnswersLiveInput}
-use Rattle.stride_cli.specs.Settings.{Limits}
+use Rattle.stride_cli.specs.Reports.{replay_report, summary_report}
+use Rattle.stride_cli.specs.Settings.{Limits, demo_limits}
 
 -- the refusal is the live command's answer; want of memory says nothing, and nothing but the program is refused
 abbrev pub RefusesLive : Limits → Live → List ℕ → Refusal → Type 0
@@ -30,9 +32,10 @@ pub record IsRunOf (limits : Limits) (bytes report : List ℕ) (before after : �
   pub program : Listing
   pub spells : spelled bytes ≡ Ok program
   pub valid : IsValid program
-  pub run : IsRecordedRun limits program report before after
+  pub run : IsRecordedRun limits program replay_report report before after
 
--- a fact where the command is `run`
-abbrev pub OnRun : Live → Type 0 → Type 0
-OnRun Run fact = fact
-OnRun Bundle fact = Unit {0}
+-- the report is that of a recording which the live command made; of `bundle` it says nothing
+abbrev pub IsReportOf : Limits → Live → List ℕ → List ℕ → ℕ → ℕ → Type 0
+IsReportOf limits Run bytes report before after = IsRunOf limits bytes report before after
+IsReportOf limits Bundle bytes report before after = Unit {0}
+IsReportOf limits (Demo number) bytes report before after = IsRecordedRun demo_limits (demo_program number) (summary_report (demo_program number)) report before after

@@ -6,6 +6,7 @@ use Rattle.stride_isa.specs.Listing.{Listing}
 use Rattle.sc_machine.specs.Machine.{Machine}
 use Rattle.sc_machine.specs.Schedule.{replayed}
 use Rattle.interleavings.specs.Recording.{IsRecording, Recording}
+use Rattle.demo.specs.Demo.{demo_program}
 use Rattle.assembler.specs.Canonical.{canonical}
 use Rattle.assembler.specs.Programs.{spelled}
 use Rattle.command_words.specs.Words.{Word}
@@ -16,21 +17,22 @@ use Rattle.log_format.specs.declared.version.Version.TheVariants.{Two}
 use Rattle.history_laws.specs.RecordedRuns.{IsScheduleOf}
 use Rattle.stride_cli.specs.declared.status.Status.TheVariants.{TooLong}
 use Rattle.stride_cli.specs.declared.words.Live.{Live}
-use Rattle.stride_cli.specs.declared.words.Live.TheVariants.{Bundle, Run}
+use Rattle.stride_cli.specs.declared.words.Live.TheVariants.{Bundle, Demo, Run}
 use Rattle.stride_cli.specs.Answers.{Answer, AnswersProgram, AnswersSettings, AnswersWords, done, refused, setting_of}
-use Rattle.stride_cli.specs.Reports.{replay_report}
-use Rattle.stride_cli.specs.Settings.{Limits, limits_of}
-use Rattle.stride_cli.specs.Words.{live_named}
+use Rattle.stride_cli.specs.Reports.{replay_report, summary_report}
+use Rattle.stride_cli.specs.Settings.{Limits, limits_of, demo_limits}
+use Rattle.stride_cli.specs.Words.{live_named, given, live_reads}
 
--- what `run` answers to a valid program: the run of a recording of it, by the schedule that is inferred from the recording's logs
-pub record AnswersLiveRun (limits : Limits) (p : Listing) (answer : Answer) : Type 0 where
+-- the answer to a valid program is the run of a recording of it, by the schedule that is inferred from the recording's logs, where this
+-- is what is reported of a schedule and the machine at the end of its run
+pub record AnswersLiveRun (limits : Limits) (p : Listing) (report_of : List ℕ → Machine → List ℕ) (answer : Answer) : Type 0 where
   pub recording : Recording
   pub recorded : IsRecording (setting_of limits p) recording
   pub schedule : List ℕ
   pub inferred : IsScheduleOf (setting_of limits p) recording schedule
   pub machine : Machine
   pub runs : replayed p limits.fuel schedule ≡ Some machine
-  pub shows : answer ≡ done (replay_report schedule machine)
+  pub shows : answer ≡ done (report_of schedule machine)
 
 -- the bundle of a recording: the fuel, the program's canonical text and the recording's logs
 abbrev pub bundle_of : Limits → Listing → Recording → Bundled
@@ -48,16 +50,20 @@ pub record AnswersLiveBundle (limits : Limits) (p : Listing) (answer : Answer) :
 
 -- what a live command answers to a valid program
 abbrev pub AnswersLive : Limits → Live → Listing → Answer → Type 0
-AnswersLive limits Run p answer = AnswersLiveRun limits p answer
+AnswersLive limits Run p answer = AnswersLiveRun limits p replay_report answer
 AnswersLive limits Bundle p answer = AnswersLiveBundle limits p answer
+AnswersLive limits (Demo number) p answer = AnswersLiveRun demo_limits p (summary_report p) answer
 
--- the answer of a live command to an input within the limit
+-- the answer of a live command to an input within the limit; a demonstration has its own program
 abbrev pub AnswersLiveInput : Limits → Live → List ℕ → Answer → Type 0
-AnswersLiveInput limits live bytes answer = AnswersProgram bytes (spelled bytes) (AnswersLive limits live) answer
+AnswersLiveInput limits Run bytes answer = AnswersProgram bytes (spelled bytes) (AnswersLive limits Run) answer
+AnswersLiveInput limits Bundle bytes answer = AnswersProgram bytes (spelled bytes) (AnswersLive limits Bundle) answer
+AnswersLiveInput limits (Demo number) bytes answer = AnswersLive limits (Demo number) (demo_program number) answer
 
--- the answer of a live command to an input of any length
+-- the answer of a live command to an input of any length, of which it may read nothing
 abbrev pub AnswersLiveBytes : Limits → Live → List ℕ → Answer → Type 0
-AnswersLiveBytes limits live bytes answer = MatchBool (nat_lt INPUT_LIMIT (length bytes)) (answer ≡ refused TooLong) (AnswersLiveInput limits live bytes answer)
+AnswersLiveBytes limits live bytes answer =
+    MatchBool (nat_lt INPUT_LIMIT (length (given (live_reads live) bytes))) (answer ≡ refused TooLong) (AnswersLiveInput limits live (given (live_reads live) bytes) answer)
 
 -- the answer of the live command, if the settings name one; others are answered as without threads
 abbrev pub AnswersNamed : Option Live → List ℕ → Settings → Answer → Type 0

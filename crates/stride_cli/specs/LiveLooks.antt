@@ -3,16 +3,17 @@ use Rattle.std.specs.Prelude.{◌≡◌, ◌⊎◌, ◌≤◌, ◌+◌, ℕ, Lis
 use Rattle.stride_isa.specs.Listing.{Listing}
 use Rattle.interleavings.specs.Following.{Followed, follow_all}
 use Rattle.interleavings.specs.Recording.{IsRecording, Recording}
+use Rattle.demo.specs.Demo.{demo_program}
 use Rattle.assembler.specs.Programs.{LineFault, spelled}
 use Rattle.linkage.specs.Sources.{event_count}
 use Rattle.event_order.specs.Laws.{traces_of}
 use Rattle.stride_cli.specs.declared.words.Command.{Command}
 use Rattle.stride_cli.specs.declared.words.Live.{Live}
-use Rattle.stride_cli.specs.declared.words.Live.TheVariants.{Bundle, Run}
+use Rattle.stride_cli.specs.declared.words.Live.TheVariants.{Bundle, Demo, Run}
 use Rattle.stride_cli.specs.Answers.{setting_of}
 use Rattle.stride_cli.specs.Headline.{look_limit}
 use Rattle.stride_cli.specs.Looks.{OnUnlinking, most_looks}
-use Rattle.stride_cli.specs.Settings.{Limits}
+use Rattle.stride_cli.specs.Settings.{Limits, demo_limits}
 
 -- at most as many looks were counted as are enough for the events of a recording of the program
 pub record HasLooked (limits : Limits) (p : Listing) (before after : ℕ) : Type 0 where
@@ -31,6 +32,7 @@ RunLooks limits (Err fault) before after = after ≡ before
 abbrev pub LiveLooks : Limits → Live → List ℕ → ℕ → ℕ → Type 0
 LiveLooks limits Run bytes before after = RunLooks limits (spelled bytes) before after
 LiveLooks limits Bundle bytes before after = after ≡ before
+LiveLooks limits (Demo number) bytes before after = RunLooks demo_limits (Ok (demo_program number)) before after
 
 -- the looks of the live command that is named, or of the command that starts no thread
 abbrev pub NamedLooks : Limits → Option Live → Option Command → List ℕ → ℕ → ℕ → Type 0
@@ -42,3 +44,4 @@ abbrev pub OnUncounted : Option Live → Option Command → Type 0 → Type 0
 OnUncounted None command fact = OnUnlinking command fact
 OnUncounted (Some Run) command fact = Unit {0}
 OnUncounted (Some Bundle) command fact = fact
+OnUncounted (Some (Demo number)) command fact = Unit {0}

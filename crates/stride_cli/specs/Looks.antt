@@ -4,6 +4,7 @@ use Rattle.stride_isa.specs.Limits.{fuel_limit, thread_limit}
 use Rattle.stride_isa.specs.Listing.{Listing}
 use Rattle.interleavings.specs.Following.{Divergence, Followed, follow_all}
 use Rattle.interleavings.specs.TraceLists.{TraceLists}
+use Rattle.demo.specs.Demo.{demo_program}
 use Rattle.log_format.specs.Bundles.{Bundled}
 use Rattle.log_format.specs.Reading.{reading, Refusal as FormatRefusal}
 use Rattle.assembler.specs.Programs.{LineFault, spelled}
@@ -12,14 +13,14 @@ use Rattle.linkage.specs.Sources.{event_count}
 use Rattle.event_order.specs.Answers.{most_looks as most_looks_of_order}
 use Rattle.event_order.specs.Laws.{traces_of}
 use Rattle.interleavings.specs.Driving.{driven}
-use Rattle.stride_cli.specs.Answers.{order_of, program_part, setting_of}
-use Rattle.stride_cli.specs.Settings.{Limits}
+use Rattle.stride_cli.specs.Answers.{demo_recording, order_of, program_part, setting_of}
+use Rattle.stride_cli.specs.Settings.{demo_limits, Limits}
 use Rattle.stride_cli.specs.declared.refusal.Refusal.{Refusal}
 use Rattle.stride_cli.specs.declared.refusal.Refusal.TheVariants as refusals
 use Rattle.stride_cli.specs.declared.status.Status.{Status}
 use Rattle.stride_cli.specs.declared.status.Status.TheVariants as statuses
 use Rattle.stride_cli.specs.declared.words.Command.{Command}
-use Rattle.stride_cli.specs.declared.words.Command.TheVariants.{Check, Follow, Sim, Show, Upgrade, Infer, Replay}
+use Rattle.stride_cli.specs.declared.words.Command.TheVariants.{Check, Demo, Follow, Sim, Show, Upgrade, Infer, Replay}
 
 -- linking and ordering these events
 abbrev pub inferring_looks : TraceLists → ℕ
@@ -50,6 +51,10 @@ simulated_looks limits (Ok order) (Ok p) = followed_looks printing_looks p (foll
 simulated_looks limits (Ok order) (Err fault) = 0
 simulated_looks limits (Err fault) spelling = 0
 
+-- the share of a demonstration: that of the logs of its recording
+abbrev pub demo_looks : ℕ → ℕ
+demo_looks number = followed_looks inferring_looks (demo_program number) (follow_all (demo_program number) demo_limits.fuel (demo_recording number).logs)
+
 -- the share of a command
 abbrev pub command_looks : Limits → Command → List ℕ → ℕ
 command_looks limits Infer bytes = bundle_looks printing_looks (reading bytes)
@@ -59,6 +64,7 @@ command_looks limits Follow bytes = 0
 command_looks limits Sim bytes = simulated_looks limits (order_of bytes) (spelled (program_part bytes))
 command_looks limits Show bytes = 0
 command_looks limits Upgrade bytes = 0
+command_looks limits (Demo number) bytes = demo_looks number
 
 -- how many looks the command that is named takes at most on an input
 abbrev pub most_looks : Limits → Option Command → List ℕ → ℕ
@@ -79,6 +85,7 @@ OnUnlinking (Some Show) fact = fact
 OnUnlinking (Some Upgrade) fact = fact
 OnUnlinking (Some Infer) fact = Unit {0}
 OnUnlinking (Some Replay) fact = Unit {0}
+OnUnlinking (Some (Demo number)) fact = Unit {0}
 
 -- a fact where the refusal comes before linking
 abbrev pub OnEarly : Refusal → Type 0 → Type 0

@@ -1,5 +1,5 @@
 -- The run of a recording. Only private clauses cite this module.
-use Rattle.std.specs.Prelude.{◌≡◌, ℕ, List, Some}
+use Rattle.std.specs.Prelude.{◌≡◌, ◌≤◌, ◌+◌, ℕ, List, Some, length}
 use Rattle.stride_isa.specs.Listing.{Listing}
 use Rattle.sc_machine.specs.Machine.{Machine}
 use Rattle.sc_machine.specs.Schedule.{replayed}
@@ -7,7 +7,8 @@ use Rattle.interleavings.specs.declared.event.LogEntry.{LogEntry}
 use Rattle.interleavings.specs.TraceLists.{TraceLists}
 use Rattle.replayer.specs.Replays.{IsRunOf, Results}
 use Rattle.stride_cli.specs.Inferring.{Inferred, IsInferred, IsInferredOf, Ordered}
-use Rattle.stride_cli.specs.Reports.{sim_report}
+use Rattle.stride_cli.specs.Headline.{look_limit}
+use Rattle.stride_cli.specs.Reports.{sim_report, summary_report}
 
 -- the events were linked and brought into their least order, and the run by it has these results
 pub record IsPlayed (p : Listing) (fuel : ℕ) (traces : TraceLists) (inferred : Inferred) (results : Results) : Type 0 where
@@ -21,3 +22,12 @@ pub record TellsLogs (p : Listing) (fuel : ℕ) (logs : List (List LogEntry)) (r
   pub machine : Machine
   pub runs : replayed p fuel inferred.schedule ≡ Some machine
   pub shows : report ≡ sim_report logs inferred.links inferred.schedule machine
+
+-- the report tells the summary of what the logs come to, and so many looks were counted first and so many then
+pub record TellsSummary (p : Listing) (fuel : ℕ) (logs : List (List LogEntry)) (report : List ℕ) (before after : ℕ) : Type 0 where
+  pub inferred : Inferred
+  pub ordered : IsInferred p fuel logs (Ordered inferred)
+  pub machine : Machine
+  pub runs : replayed p fuel inferred.schedule ≡ Some machine
+  pub shows : report ≡ summary_report p inferred.schedule machine
+  pub found : after ≤ before + look_limit (length inferred.schedule)

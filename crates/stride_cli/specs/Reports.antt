@@ -1,5 +1,6 @@
 -- The sections of reports, each a function of one value.
-use Rattle.std.specs.Prelude.{ℕ, ◌+◌, ◌==◌, if◌then◌else◌, List, [], ◌∷◌, ◌++◌, Option, Some, None, codes, decimal, length}
+use Rattle.std.specs.Prelude.{ℕ, ◌+◌, ◌==◌, Bool, true, false, if◌then◌else◌, List, [], ◌∷◌, ◌++◌, Option, Some, None, codes, decimal, length, slice_index}
+use Rattle.stride_isa.specs.Listing.{Listing}
 use Rattle.interleavings.specs.declared.event.LogEntry.{LogEntry}
 use Rattle.interleavings.specs.declared.event.LogEntry.TheVariants.{Read, Write, Update, Enter}
 use Rattle.log_format.specs.Bundles.{Bundled}
@@ -8,7 +9,7 @@ use Rattle.sc_machine.specs.declared.end.End.TheVariants.{Halted, Trapped, OutOf
 use Rattle.sc_machine.specs.declared.trap.Trap.{Trap}
 use Rattle.sc_machine.specs.declared.trap.Trap.TheVariants.{DivZero, Range, Again, NotHeld, HeldAtHalt}
 use Rattle.sc_machine.specs.Machine.{Machine, Printed}
-use Rattle.sc_machine.specs.Schedule.{ends}
+use Rattle.sc_machine.specs.Schedule.{ends, last_values}
 use Rattle.sc_machine.specs.Transcript.{transcript_bytes}
 
 -- the word for a trap
@@ -122,3 +123,29 @@ sim_report logs links schedule m = logs_section logs ++ (links_section links ++ 
 -- the report of `replay` on a schedule and the machine at the end of its run
 abbrev pub replay_report : List ℕ → Machine → List ℕ
 replay_report schedule m = schedule_section schedule ++ follow_report m
+
+-- whether a thread ended by its `halt`
+abbrev pub is_halted : End → Bool
+is_halted Halted = true
+is_halted (Trapped trap pc) = false
+is_halted OutOfSteps = false
+is_halted (Stopped pc) = false
+
+-- how many of the ends are by a `halt`
+abbrev pub halted_count : List End → ℕ
+halted_count [] = 0
+halted_count (end ∷ ends) = (if is_halted end then 1 else 0) + halted_count ends
+
+-- a line of this word and a count
+abbrev pub count_line : List ℕ → ℕ → List ℕ
+count_line word count = word ++ (decimal count ++ 10 ∷ [])
+
+-- the lines of a summary: how many threads and events there are, how many threads halted, and the total
+abbrev pub summary_lines : ℕ → ℕ → ℕ → ℕ → List ℕ
+summary_lines threads events halted total =
+    count_line (codes "threads ") threads ++ (count_line (codes "events ") events ++ (count_line (codes "halted ") halted ++ count_line (codes "total ") total))
+
+-- the report of a demonstration on its program, the schedule and the machine at the end of its run; the total is the last value of
+-- cell 0
+abbrev pub summary_report : Listing → List ℕ → Machine → List ℕ
+summary_report p schedule m = summary_lines (length p.threads) (length schedule) (halted_count (ends m)) (slice_index (last_values p m) 0)

@@ -3,6 +3,7 @@ use Rattle.std.specs.Prelude.{ℕ, ◌≤◌, unwrap_or}
 use Rattle.stride_isa.specs.Limits.{fuel_limit}
 use Rattle.interleavings.specs.declared.limits.TheConstants.{PATIENCE_LIMIT}
 use Rattle.command_words.specs.declared.settings.Settings.{Settings}
+use Rattle.demo.specs.declared.limits.TheConstants as demo
 use Rattle.stride_cli.specs.declared.settings.TheConstants.{FUEL, PATIENCE}
 
 -- how many instructions each thread may make, and after how many odd looks in a row it gives up
@@ -13,6 +14,10 @@ pub record Limits : Type 0 where
 -- what the options set, and the default for an option that isn't given
 abbrev pub limits_of : Settings → Limits
 limits_of settings = record { fuel = unwrap_or settings.fuel FUEL; patience = unwrap_or settings.patience PATIENCE }
+
+-- how demonstrations are run
+abbrev pub demo_limits : Limits
+demo_limits = record { fuel = demo.FUEL; patience = demo.PATIENCE }
 
 -- there is some of each, and no more than may be set
 pub record AreInRange (limits : Limits) : Type 0 where

@@ -5,7 +5,7 @@ use Rattle.command_words.specs.Words.{Word}
 use Rattle.stride_cli.specs.declared.status.Status.{Status}
 use Rattle.stride_cli.specs.declared.status.Status.TheVariants.{Diverges, Done, NoLinkage, NotEnabled, ReadFault, WriteFault, NoMemory}
 use Rattle.stride_cli.specs.declared.words.Command.{Command}
-use Rattle.stride_cli.specs.declared.words.Command.TheVariants.{Check, Follow, Infer, Replay, Show, Sim, Upgrade}
+use Rattle.stride_cli.specs.declared.words.Command.TheVariants.{Check, Demo, Follow, Infer, Replay, Show, Sim, Upgrade}
 use Rattle.stride_cli.specs.Answers.{Answer, IsAnswer, done, refused}
 use Rattle.stride_cli.specs.Statuses.{fault_seen}
 
@@ -62,6 +62,7 @@ OnOrderless (Some Show) fact = fact
 OnOrderless (Some Upgrade) fact = fact
 OnOrderless (Some Infer) fact = fact
 OnOrderless (Some Replay) fact = fact
+OnOrderless (Some (Demo number)) fact = fact
 OnOrderless (Some Follow) fact = Unit {0}
 OnOrderless (Some Sim) fact = Unit {0}
 
@@ -78,6 +79,7 @@ OnLogless (Some Follow) fact = fact
 OnLogless (Some Sim) fact = fact
 OnLogless (Some Show) fact = fact
 OnLogless (Some Upgrade) fact = fact
+OnLogless (Some (Demo number)) fact = fact
 OnLogless (Some Infer) fact = Unit {0}
 OnLogless (Some Replay) fact = Unit {0}
 

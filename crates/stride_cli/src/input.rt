@@ -1,9 +1,12 @@
 //! What commands read: a program, or a program with an order.
-ghost use Rattle.std.specs.Prelude.{◌≡◌, ◌≤◌, length, IfOk, IfErr};
+ghost use Rattle.std.specs.Prelude.{◌≡◌, ◌<◌, ◌≤◌, [], length, Err, IfOk, IfErr, IfSome, OnOk};
+ghost use Rattle.std.specs.Bool.{MatchBool};
+ghost use Rattle.stride_base.specs.Devices.{Rose};
 ghost use Rattle.stride_cli.specs.Gives.{Refuses};
 ghost use Rattle.stride_cli.specs.Inputs.{Accepts, IsInput};
 ghost use Rattle.stride_cli.specs.Refusals.{of_check, of_input};
 ghost use Rattle.stride_cli.specs.Settings.{Limits};
+ghost use Rattle.stride_cli.specs.Words.{given};
 ghost use Rattle.stride_cli.specs.declared.words.Command.TheVariants.{Follow, Sim};
 
 use crate::refusal::Refusal;
@@ -11,7 +14,7 @@ use crate::status::{ProgramFault, Status};
 use assembler::{assemble, line_of_code, read_order, split_order};
 use std::alloc::Global;
 use stride_base::limits::INPUT_LIMIT;
-use stride_base::{InputError, List};
+use stride_base::{InputError, List, Source, read_all};
 use stride_isa::{CheckError, Checked, check};
 
 /// The status of an input that can't be read.
@@ -22,6 +25,26 @@ pub fn unread(error: InputError) -> Status
         InputError::ReadFault => Status::ReadFault,
         InputError::TooLong => Status::TooLong,
         InputError::NoMemory => Status::NoMemory,
+    }
+}
+
+/// The input of a command: all that is left of the source, or nothing where the command reads none.
+pub fn read_bytes<S: Source>(
+    alloc: Global,
+    reads: bool,
+    source: &mut S,
+) -> Result<List<u8>, InputError>
+    ensures all { IfOk result (λ list. IfSome (S.left source.old) (λ bytes. list.items ≡ given reads bytes)) }
+    ensures end { MatchBool reads (OnOk result (IfSome (S.left source.new) (λ rest. rest ≡ []))) (source.new ≡ source.old) }
+    ensures within { IfOk result (λ list. length list.items ≤ INPUT_LIMIT) }
+    ensures read_fault { result ≡ Err InputError.ReadFault → Rose (S.faults source.old) (S.faults source.new) }
+    ensures too_long { result ≡ Err InputError.TooLong → IfSome (S.left source.old) (λ bytes. INPUT_LIMIT < length (given reads bytes)) }
+    ensures counted { S.faults source.old ≤ S.faults source.new }
+{
+    if reads {
+        read_all(alloc, source, INPUT_LIMIT)
+    } else {
+        Ok(List::new(alloc))
     }
 }
 

@@ -7,6 +7,8 @@ pub fn an_answer()
     ensures { AnAnswer }
 {
     stride_isa::some_verdict();
+    demo::demo_programs_are_valid();
+    demo::demo_orders_name_threads();
     log_format::fuel_is_in_range();
     interleavings::driven_is_a_history();
     interleavings::driven_is_followed();

@@ -20,7 +20,7 @@ pub struct Limits {
 impl Limits {
     ghost use Rattle.std.specs.Prelude.{◌≡◌};
     ghost use Rattle.stride_cli.specs.LimitsSeen.{limits_seen};
-    ghost use Rattle.stride_cli.specs.Settings.{AreInRange, limits_of};
+    ghost use Rattle.stride_cli.specs.Settings.{AreInRange, demo_limits, limits_of};
 
     /// What the options set, and the default for an option that isn't given.
     pub fn of(settings: Settings) -> Limits
@@ -30,6 +30,16 @@ impl Limits {
         Limits {
             fuel: settings.fuel.unwrap_or(FUEL),
             patience: settings.patience.unwrap_or(PATIENCE),
+        }
+    }
+
+    /// How demonstrations are run, whatever the options set.
+    pub fn of_demonstrations() -> Limits
+        ensures { limits_seen result ≡ demo_limits }
+    {
+        Limits {
+            fuel: demo::limits::FUEL,
+            patience: demo::limits::PATIENCE,
         }
     }
 }

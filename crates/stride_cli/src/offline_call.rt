@@ -1,23 +1,23 @@
 //! The top call for all commands that start no thread.
 ghost use Rattle.std.specs.Prelude.{◌≡◌, ◌+◌, ◌≤◌, ◌↔◌, [], None, Some, IfSome, map, length};
+ghost use Rattle.std.specs.Bool.{MatchBool};
 ghost use Rattle.stride_base.specs.Devices.{Rose};
 ghost use Rattle.stride_cli.specs.Answers.{AnswersBy, AnswersSettings};
 ghost use Rattle.stride_cli.specs.LimitsSeen.{limits_seen};
 ghost use Rattle.stride_cli.specs.Looks.{BeforeLinking, OnUnlinking, greatest_looks, most_looks};
 ghost use Rattle.stride_cli.specs.Settings.{AreInRange, limits_of};
 ghost use Rattle.stride_cli.specs.Telling.{OnDone, OnLogless, OnMemory, OnOrderless, OnReadFault, OnRefusal, OnWriteFault, RefusesNoLogs, RefusesNoMember, Tells, TellsBy};
-ghost use Rattle.stride_cli.specs.Words.{OfLine, offline_named};
+ghost use Rattle.stride_cli.specs.Words.{OfLine, named_reads, offline_named, reads};
 
 use crate::commands::report_of;
-use crate::input::unread;
+use crate::input::{read_bytes, unread};
 use crate::limits::Limits;
 use crate::status::Status;
 use crate::words::{Command, offline_of};
 use command_words::{Refusal, Settings, read_words};
 use std::alloc::Global;
 use std::sync::ledger::Ledger;
-use stride_base::limits::INPUT_LIMIT;
-use stride_base::{Failed, Sink, Source, Steps, put_all, read_all};
+use stride_base::{Failed, Sink, Source, Steps, put_all};
 
 // Does a command, as `offline` says.
 fn offline_command<S: Source, K: Sink, L: Ledger>(
@@ -32,7 +32,7 @@ fn offline_command<S: Source, K: Sink, L: Ledger>(
     ensures used { result ≡ Status.Usage → ⊥ }
 
     ensures untouched { OnRefusal result (sink.new ≡ sink.old) }
-    ensures end { OnDone result (IfSome (S.left source.new) (λ rest. rest ≡ [])) }
+    ensures end { MatchBool (reads command) (OnDone result (IfSome (S.left source.new) (λ rest. rest ≡ []))) (source.new ≡ source.old) }
     ensures members { OnOrderless (Some command) (RefusesNoMember result) }
     ensures logs { OnLogless (Some command) (RefusesNoLogs result) }
 
@@ -45,7 +45,7 @@ fn offline_command<S: Source, K: Sink, L: Ledger>(
     ensures looks { IfSome (S.left source.old) (λ bytes. steps.new ≤ steps.old + most_looks (limits_seen limits) (Some command) bytes) }
     ensures ceiling { steps.new ≤ steps.old + greatest_looks }
 {
-    let bytes = match read_all(alloc, source, INPUT_LIMIT) {
+    let bytes = match read_bytes(alloc, command.reads_input(), source) {
         Ok(bytes) => bytes,
         Err(error) => return unread(error),
     };
@@ -73,7 +73,7 @@ pub fn offline_by<S: Source, K: Sink, L: Ledger>(
     ensures unread { result ≡ Status.Usage → source.new ≡ source.old }
 
     ensures untouched { OnRefusal result (sink.new ≡ sink.old) }
-    ensures end { OnDone result (IfSome (S.left source.new) (λ rest. rest ≡ [])) }
+    ensures end { MatchBool (named_reads None (offline_named settings.command)) (OnDone result (IfSome (S.left source.new) (λ rest. rest ≡ []))) (source.new ≡ source.old) }
     ensures members { OnOrderless (offline_named settings.command) (RefusesNoMember result) }
     ensures logs { OnLogless (offline_named settings.command) (RefusesNoLogs result) }
 
@@ -92,8 +92,8 @@ pub fn offline_by<S: Source, K: Sink, L: Ledger>(
     }
 }
 
-/// Does the command that the words name (the program's name is none of them): reads the whole input, and puts the
-/// whole report only when it is made. It starts no thread.
+/// Does the command that the words name (the program's name is none of them): reads the whole input, where the command reads
+/// one, and puts the whole report only when it is made. It starts no thread.
 ///
 /// What is said of bytes holds where the source and the sink tell theirs.
 pub fn offline<S: Source, K: Sink, L: Ledger>(
@@ -112,7 +112,8 @@ pub fn offline<S: Source, K: Sink, L: Ledger>(
     ensures unread { result ≡ Status.Usage → source.new ≡ source.old }
 
     ensures untouched { OnRefusal result (sink.new ≡ sink.old) }
-    ensures end { OnDone result (IfSome (S.left source.new) (λ rest. rest ≡ [])) }
+    // A command that reads an input reads it to its end.
+    ensures end { OfLine (map (λ word. word.now) words.entry.now) (λ settings. MatchBool (named_reads None (offline_named settings.command)) (OnDone result (IfSome (S.left source.new) (λ rest. rest ≡ []))) (source.new ≡ source.old)) }
 
     // Only `follow` and `sim` refuse a member of an order, and only `infer` and `replay` refuse logs.
     ensures members { OfLine (map (λ word. word.now) words.entry.now) (λ settings. OnOrderless (offline_named settings.command) (RefusesNoMember result)) }

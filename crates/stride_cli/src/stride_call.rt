@@ -1,18 +1,18 @@
 //! The top call for all commands.
 ghost use Rattle.std.specs.Prelude.{◌≡◌, ◌+◌, ◌≤◌, ◌↔◌, [], None, Ok, Some, IfSome, map, length};
+ghost use Rattle.std.specs.Bool.{MatchBool};
 ghost use Rattle.stride_base.specs.Devices.{Rose};
-ghost use Rattle.stride_cli.specs.GivesLive.{OnRun};
-ghost use Rattle.stride_cli.specs.Headline.{Headline, IsKept, IsKeptBy, World};
+ghost use Rattle.stride_cli.specs.Headline.{DemoHeadline, Headline, IsDemoKeptBy, IsKeptBy, IsLiveKept, World};
 ghost use Rattle.stride_cli.specs.LimitsSeen.{limits_seen};
 ghost use Rattle.stride_cli.specs.LiveAnswers.{AnswersLiveBytes, AnswersLiveSettings, IsStrideAnswer};
 ghost use Rattle.stride_cli.specs.LiveLooks.{LiveLooks, NamedLooks, OnUncounted};
 ghost use Rattle.stride_cli.specs.Looks.{BeforeLinking, greatest_looks};
 ghost use Rattle.stride_cli.specs.Settings.{AreInRange, limits_of};
 ghost use Rattle.stride_cli.specs.Telling.{OnDone, OnLogless, OnMemory, OnOrderless, OnReadFault, OnRefusal, OnWriteFault, RefusesNoLogs, RefusesNoMember, TellsBy};
-ghost use Rattle.stride_cli.specs.Words.{OfLine, live_named, offline_named};
+ghost use Rattle.stride_cli.specs.Words.{IsNoLine, OfLine, live_named, live_reads, named_reads, offline_named};
 
 use crate::commands::live_report_of;
-use crate::input::unread;
+use crate::input::{read_bytes, unread};
 use crate::limits::Limits;
 use crate::offline_call::offline_by;
 use crate::status::Status;
@@ -23,8 +23,7 @@ use std::alloc::Global;
 use std::sync::Wait;
 use std::sync::ledger::Ledger;
 use std::thread::Threads;
-use stride_base::limits::INPUT_LIMIT;
-use stride_base::{Failed, Sink, Source, Steps, put_all, read_all};
+use stride_base::{Failed, Sink, Source, Steps, put_all};
 
 // Does a live command, as `stride` says.
 fn live_command<R: Threads + Wait + Sync, S: Source, K: Sink, G: Gate, L: Ledger>(
@@ -37,12 +36,12 @@ fn live_command<R: Threads + Wait + Sync, S: Source, K: Sink, G: Gate, L: Ledger
     gate: &G,
     steps: &mut Steps<L>,
 ) -> Status
-    ensures promise { OnRun command (IsKept (limits_seen limits) (S.left source.old) (record { held = K.held sink.old; sink_faults = K.faults sink.old; source_faults = S.faults source.old; looks = steps.old }) (record { held = K.held sink.new; sink_faults = K.faults sink.new; source_faults = S.faults source.new; looks = steps.new }) result) }
+    ensures promise { IsLiveKept (limits_seen limits) command (S.left source.old) (record { held = K.held sink.old; sink_faults = K.faults sink.old; source_faults = S.faults source.old; looks = steps.old }) (record { held = K.held sink.new; sink_faults = K.faults sink.new; source_faults = S.faults source.new; looks = steps.new }) result }
     ensures answer { IfSome (S.left source.old) (λ bytes. TellsBy (AnswersLiveBytes (limits_seen limits) command bytes) (K.held sink.old) (K.held sink.new) result) }
     ensures used { result ≡ Status.Usage → ⊥ }
 
     ensures untouched { OnRefusal result (sink.new ≡ sink.old) }
-    ensures end { OnDone result (IfSome (S.left source.new) (λ rest. rest ≡ [])) }
+    ensures end { MatchBool (live_reads command) (OnDone result (IfSome (S.left source.new) (λ rest. rest ≡ []))) (source.new ≡ source.old) }
     ensures members { RefusesNoMember result }
     ensures logs { RefusesNoLogs result }
 
@@ -56,7 +55,7 @@ fn live_command<R: Threads + Wait + Sync, S: Source, K: Sink, G: Gate, L: Ledger
     ensures ceiling { steps.new ≤ steps.old + greatest_looks }
 {
     stride_isa::one_verdict();
-    let bytes = match read_all(alloc, source, INPUT_LIMIT) {
+    let bytes = match read_bytes(alloc, command.reads_input(), source) {
         Ok(bytes) => bytes,
         Err(error) => return unread(error),
     };
@@ -82,12 +81,12 @@ fn stride_by<R: Threads + Wait + Sync, S: Source, K: Sink, G: Gate, L: Ledger>(
 ) -> Status
     requires { AreInRange (limits_of settings) }
     ensures promise { IsKeptBy settings (S.left source.old) (record { held = K.held sink.old; sink_faults = K.faults sink.old; source_faults = S.faults source.old; looks = steps.old }) (record { held = K.held sink.new; sink_faults = K.faults sink.new; source_faults = S.faults source.new; looks = steps.new }) result }
+    ensures demo_promise { IsDemoKeptBy settings (record { held = K.held sink.old; sink_faults = K.faults sink.old; source_faults = S.faults source.old; looks = steps.old }) (record { held = K.held sink.new; sink_faults = K.faults sink.new; source_faults = S.faults source.new; looks = steps.new }) result }
     ensures answer { IfSome (S.left source.old) (λ bytes. TellsBy (AnswersLiveSettings bytes settings) (K.held sink.old) (K.held sink.new) result) }
-    ensures usage { (result ≡ Status.Usage) ↔ ((live_named settings.command ≡ None) × (offline_named settings.command ≡ None)) }
-    ensures unread { result ≡ Status.Usage → source.new ≡ source.old }
+    ensures used { result ≡ Status.Usage → ⊥ }
 
     ensures untouched { OnRefusal result (sink.new ≡ sink.old) }
-    ensures end { OnDone result (IfSome (S.left source.new) (λ rest. rest ≡ [])) }
+    ensures end { MatchBool (named_reads (live_named settings.command) (offline_named settings.command)) (OnDone result (IfSome (S.left source.new) (λ rest. rest ≡ []))) (source.new ≡ source.old) }
     ensures members { OnOrderless (offline_named settings.command) (RefusesNoMember result) }
     ensures logs { OnLogless (offline_named settings.command) (RefusesNoLogs result) }
 
@@ -109,8 +108,8 @@ fn stride_by<R: Threads + Wait + Sync, S: Source, K: Sink, G: Gate, L: Ledger>(
     }
 }
 
-/// Does the command that the words name (the program's name is none of them): reads the whole input, and puts the whole report only
-/// when it is made. `run` and `bundle` run each thread of the program on a thread of its own, and may wait for them; the other commands
+/// Does the command that the words name (the program's name is none of them): reads the whole input, where the command
+/// reads one, and puts the whole report only when it is made. `run`, `bundle` and a live demonstration run each thread of the program on a thread of its own, and may wait for them; the other commands
 /// are those of `offline`, start no thread, and always return.
 ///
 /// What is said of bytes holds where the source and the sink tell theirs.
@@ -129,16 +128,18 @@ pub fn stride<R: Threads + Wait + Sync, S: Source, K: Sink, G: Gate, L: Ledger>(
     // transcript gives each thread exactly its recorded output.
     ensures headline { Headline (map (λ word. word.now) words.entry.now) (S.left source.old) (record { held = K.held sink.old; sink_faults = K.faults sink.old; source_faults = S.faults source.old; looks = steps.old }) (record { held = K.held sink.new; sink_faults = K.faults sink.new; source_faults = S.faults source.new; looks = steps.new }) result }
 
+    // The same of a demonstration whose threads run beside each other, with its own program, and its summary as the report.
+    ensures demo_headline { DemoHeadline (map (λ word. word.now) words.entry.now) (record { held = K.held sink.old; sink_faults = K.faults sink.old; source_faults = S.faults source.old; looks = steps.old }) (record { held = K.held sink.new; sink_faults = K.faults sink.new; source_faults = S.faults source.new; looks = steps.new }) result }
+
     // An answer to the words and the bytes, but for a device's fault and want of memory: the status with its details, and the report,
     // whole where the command is done, or a prefix of it where it could not be put.
     ensures answer { IfSome (S.left source.old) (λ bytes. TellsBy (IsStrideAnswer (map (λ word. word.now) words.entry.now) bytes) (K.held sink.old) (K.held sink.new) result) }
-    
-    // Exactly where the words are no line of the grammar, or one of a demonstration.
-    ensures usage { OnMemory result ((result ≡ Status.Usage) ↔ OfLine (map (λ word. word.now) words.entry.now) (λ settings. (live_named settings.command ≡ None) × (offline_named settings.command ≡ None))) }
+    ensures usage { OnMemory result ((result ≡ Status.Usage) ↔ IsNoLine (map (λ word. word.now) words.entry.now)) }
     ensures unread { result ≡ Status.Usage → source.new ≡ source.old }
 
     ensures untouched { OnRefusal result (sink.new ≡ sink.old) }
-    ensures end { OnDone result (IfSome (S.left source.new) (λ rest. rest ≡ [])) }
+    // A command that reads an input reads it to its end.
+    ensures end { OfLine (map (λ word. word.now) words.entry.now) (λ settings. MatchBool (named_reads (live_named settings.command) (offline_named settings.command)) (OnDone result (IfSome (S.left source.new) (λ rest. rest ≡ []))) (source.new ≡ source.old)) }
 
     // Only `follow` and `sim` refuse a member of an order, and only `infer` and `replay` refuse logs.
     ensures members { OfLine (map (λ word. word.now) words.entry.now) (λ settings. OnOrderless (offline_named settings.command) (RefusesNoMember result)) }

@@ -1,6 +1,6 @@
 //! The commands that the words can name.
 ghost use Rattle.std.specs.Prelude.{◌≡◌};
-ghost use Rattle.stride_cli.specs.Words.{live_named, offline_named};
+ghost use Rattle.stride_cli.specs.Words.{live_named, live_reads, offline_named, reads};
 
 use command_words::Command as Named;
 
@@ -21,6 +21,8 @@ pub enum Command {
     Infer,
     /// Plays that order on the sequentially consistent machine.
     Replay,
+    /// Records the demonstration of this number on one thread, and replays the recording.
+    Demo { number: u64 },
 }
 
 /// What the program can be told to do by threads that run beside each other.
@@ -30,9 +32,41 @@ pub enum Live {
     Run,
     /// Records a program, and spells the bundle of the recording.
     Bundle,
+    /// Records the demonstration of this number, and replays the recording.
+    Demo { number: u64 },
 }
 
-/// The command that is named, or `None` where its threads run beside each other. A demonstration isn't done yet.
+impl Command {
+    /// Whether the command reads an input.
+    pub fn reads_input(self) -> bool
+        ensures { result ≡ reads self }
+    {
+        match self {
+            Command::Check
+            | Command::Follow
+            | Command::Sim
+            | Command::Show
+            | Command::Upgrade
+            | Command::Infer
+            | Command::Replay => true,
+            Command::Demo { number: _ } => false,
+        }
+    }
+}
+
+impl Live {
+    /// Whether the command reads an input.
+    pub fn reads_input(self) -> bool
+        ensures { result ≡ live_reads self }
+    {
+        match self {
+            Live::Run | Live::Bundle => true,
+            Live::Demo { number: _ } => false,
+        }
+    }
+}
+
+/// The command that is named, or `None` where its threads run beside each other.
 pub fn offline_of(named: Named) -> Option<Command>
     ensures { result ≡ offline_named named }
 {
@@ -44,18 +78,26 @@ pub fn offline_of(named: Named) -> Option<Command>
         Named::Upgrade => Some(Command::Upgrade),
         Named::Infer => Some(Command::Infer),
         Named::Replay => Some(Command::Replay),
+        Named::Demo {
+            number,
+            live: false,
+        } => Some(Command::Demo { number }),
         Named::Run | Named::Bundle => None,
-        Named::Demo { number: _, live: _ } => None,
+        Named::Demo {
+            number: _,
+            live: true,
+        } => None,
     }
 }
 
-/// The live command that is named, or `None` where it starts no thread. A demonstration isn't done yet.
+/// The live command that is named, or `None` where it starts no thread.
 pub fn live_of(named: Named) -> Option<Live>
     ensures { result ≡ live_named named }
 {
     match named {
         Named::Run => Some(Live::Run),
         Named::Bundle => Some(Live::Bundle),
+        Named::Demo { number, live: true } => Some(Live::Demo { number }),
         Named::Check
         | Named::Follow
         | Named::Sim
@@ -63,6 +105,9 @@ pub fn live_of(named: Named) -> Option<Live>
         | Named::Upgrade
         | Named::Infer
         | Named::Replay => None,
-        Named::Demo { number: _, live: _ } => None,
+        Named::Demo {
+            number: _,
+            live: false,
+        } => None,
     }
 }

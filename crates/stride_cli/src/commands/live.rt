@@ -1,11 +1,12 @@
 //! The arm that calls a live command.
 ghost use Rattle.std.specs.Prelude.{◌≡◌, ◌+◌, ◌≤◌, length, IfErr, IfOk, None, Some};
-ghost use Rattle.stride_cli.specs.GivesLive.{GivesLive, IsRunOf, OnRun};
+ghost use Rattle.stride_cli.specs.GivesLive.{GivesLive, IsReportOf};
 ghost use Rattle.stride_cli.specs.LimitsSeen.{limits_seen};
 ghost use Rattle.stride_cli.specs.LiveLooks.{LiveLooks, OnUncounted};
 ghost use Rattle.stride_cli.specs.Looks.{OnEarly, greatest_looks};
 
 use crate::commands::bundle::bundle_program;
+use crate::commands::demo::demonstrate_live;
 use crate::commands::run::run_program;
 use crate::limits::Limits;
 use crate::refusal::Refusal;
@@ -30,7 +31,7 @@ pub fn live_report_of<R: Threads + Wait + Sync, G: Gate, L: Ledger>(
 ) -> Result<List<u8>, Refusal>
     requires { length bytes.items ≤ INPUT_LIMIT }
     ensures answer { GivesLive result (limits_seen limits) command bytes.items }
-    ensures run { IfOk result (λ report. OnRun command (IsRunOf (limits_seen limits) bytes.items report.items steps.old steps.new)) }
+    ensures run { IfOk result (λ report. IsReportOf (limits_seen limits) command bytes.items report.items steps.old steps.new) }
     ensures early { IfErr result (λ refusal. OnEarly refusal (steps.new ≡ steps.old)) }
     ensures uncounted { OnUncounted (Some command) None (steps.new ≡ steps.old) }
     ensures looks { LiveLooks (limits_seen limits) command bytes.items steps.old steps.new }
@@ -39,5 +40,6 @@ pub fn live_report_of<R: Threads + Wait + Sync, G: Gate, L: Ledger>(
     match command {
         Live::Run => run_program(rt, alloc, limits, bytes, gate, steps),
         Live::Bundle => bundle_program(rt, alloc, limits, bytes, gate),
+        Live::Demo { number } => Ok(demonstrate_live(rt, alloc, number, gate, steps)?),
     }
 }

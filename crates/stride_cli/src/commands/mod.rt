@@ -6,6 +6,7 @@ ghost use Rattle.stride_cli.specs.Looks.{OnEarly, OnUnlinking, command_looks, gr
 
 mod bundle;
 mod check;
+mod demo;
 mod follow;
 mod infer;
 mod live;
@@ -19,6 +20,7 @@ use crate::limits::Limits;
 use crate::refusal::Refusal;
 use crate::words::Command;
 use check::check_text;
+use demo::demonstrate;
 use follow::follow_schedule;
 use infer::infer_bundle;
 pub use live::live_report_of;
@@ -54,5 +56,6 @@ pub fn report_of<L: Ledger>(
         Command::Upgrade => upgrade_bundle(alloc, bytes.as_slice()),
         Command::Infer => infer_bundle(alloc, bytes, steps),
         Command::Replay => replay_bundle(alloc, bytes, steps),
+        Command::Demo { number } => Ok(demonstrate(alloc, number, steps)?),
     }
 }

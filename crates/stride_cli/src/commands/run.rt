@@ -7,6 +7,7 @@ ghost use Rattle.stride_cli.specs.Headline.{IsRecordedRun};
 ghost use Rattle.stride_cli.specs.LimitsSeen.{limits_seen};
 ghost use Rattle.stride_cli.specs.LiveLooks.{LiveLooks, RunLooks};
 ghost use Rattle.stride_cli.specs.Looks.{OnEarly, greatest_looks};
+ghost use Rattle.stride_cli.specs.Reports.{replay_report};
 ghost use Rattle.stride_cli.specs.declared.words.Live.TheVariants.{Run};
 
 use crate::commands::replay::put_replay;
@@ -35,7 +36,7 @@ fn report_recording<L: Ledger>(
     steps: &mut Steps<L>,
 ) -> Result<List<u8>, NoMemory>
     requires { IsLogged (limits_seen limits) program.now (lists_of logs.items) }
-    ensures run { IfOk result (λ report. IsRecordedRun (limits_seen limits) program.now report.items steps.old steps.new) }
+    ensures run { IfOk result (λ report. IsRecordedRun (limits_seen limits) program.now replay_report report.items steps.old steps.new) }
     ensures looks { RunLooks (limits_seen limits) (Ok program.now) steps.old steps.new }
     ensures ceiling { steps.new ≤ steps.old + greatest_looks }
 {
@@ -45,7 +46,11 @@ fn report_recording<L: Ledger>(
     drop(logs);
     let replayed = play_recorded(alloc, program, limits, &traces, steps)?;
     let mut report = List::new(alloc);
-    put_replay(&mut report, replayed.order.schedule.as_slice(), &replayed.played)?;
+    put_replay(
+        &mut report,
+        replayed.order.schedule.as_slice(),
+        &replayed.played,
+    )?;
     Ok(report)
 }
 

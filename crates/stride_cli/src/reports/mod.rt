@@ -6,9 +6,11 @@ mod line;
 mod links;
 mod logs;
 mod schedule;
+mod summary;
 
 pub use counts::{put_counts, put_text};
 pub use ends::put_ends;
 pub use links::put_links;
 pub use logs::put_logs;
 pub use schedule::put_schedule;
+pub use summary::{Summary, halted, put_summary};

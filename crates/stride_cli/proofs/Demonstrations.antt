@@ -1,0 +1,75 @@
+-- The recording of a demonstration, and what is answered to its number.
+use Rattle.std.proofs.Common.{◌≡◌, ◌∙◌, ℕ, ◌+◌, ◌<◌, ◌≤◌, Bool, true, false, List, [], ◌∷◌, Option, Some, None, Result, Ok, nat_le, option_map, if◌then◌else◌, refl, sym, ap, subst, arith, length}
+use Rattle.std.proofs.lemmas.Bool.{lt-leb}
+use Rattle.std.specs.List.{AllByRecursion}
+use Rattle.demo.specs.Demo.{demo_order, demo_program, thread_count}
+use Rattle.demo.specs.Laws.{DemoOrdersNameThreads, DemoProgramsAreValid}
+use Rattle.stride_isa.specs.Listing.{Listing}
+use Rattle.sc_machine.specs.Machine.{Machine}
+use Rattle.sc_machine.specs.Schedule.{replayed}
+use Rattle.interleavings.specs.declared.event.LogEntry.{LogEntry}
+use Rattle.interleavings.specs.Driving.{driven, stranger}
+use Rattle.interleavings.specs.Following.{follow_all}
+use Rattle.stride_cli.specs.Answers.{Answer, AnswersDemo, demo_recording, done, setting_of}
+use Rattle.stride_cli.specs.Inferring.{Inferred, IsInferred, Ordered}
+use Rattle.stride_cli.specs.Playing.{TellsSummary}
+use Rattle.stride_cli.specs.Reports.{summary_report}
+use Rattle.stride_cli.specs.Settings.{demo_limits}
+use Rattle.stride_cli.proofs.Inferences.{Laws as Inferring, one_inference}
+use Rattle.stride_cli.proofs.Simulations.{Laws, recording_answer}
+
+-- the first member is known, and so are the rest
+known_first : (unknown : Bool) (rest : Option ℕ) → unknown ≡ false → rest ≡ None → (if unknown then Some 0 else option_map (λ place. place + 1) rest) ≡ None
+known_first true rest first others = cc
+known_first false (Some place) first others = cc
+known_first false None first others = refl
+
+-- members that are below the number of threads name threads
+pub known_members : (threads : ℕ) (order : List ℕ) → AllByRecursion (λ thread. thread < threads) order → stranger threads order ≡ None
+unfolding stranger
+known_members threads [] all = refl
+known_members threads (thread ∷ rest) all = known_first (nat_le threads thread) (stranger threads rest) (lt-leb threads thread all.0) (known_members threads rest all.1)
+
+-- the order of a demonstration names threads of its program
+pub demo_known : DemoProgramsAreValid → DemoOrdersNameThreads → (number : ℕ) → stranger (length (demo_program number).threads) (demo_order number) ≡ None
+demo_known programs orders number =
+    let P : ℕ → Type 0 = λ count. stranger count (demo_order number) ≡ None in
+    subst P (sym (programs number).threads) (known_members (thread_count number) (demo_order number) (orders number).named)
+
+-- a demonstration has an answer
+pub demo_answer : Laws → DemoProgramsAreValid → DemoOrdersNameThreads → (number : ℕ) → (answer : Answer) × AnswersDemo number answer
+demo_answer laws programs orders number =
+    let answered = (recording_answer laws demo_limits (omega arith) (demo_program number) (programs number).valid (demo_order number) (demo_known programs orders number)).1 in (
+      done (summary_report (demo_program number) answered.inferred.schedule answered.machine),
+      record {
+        inferred = answered.inferred;
+        ordered = answered.ordered;
+        machine = answered.machine;
+        runs = answered.runs;
+        shows = refl;
+      },
+    )
+
+some_same : {X : Type 0} {x y : X} → Some x ≡ Some y → x ≡ y
+some_same e = cc
+
+ordered_same : (one other : Inferred) → Ordered one ≡ Ordered other → one ≡ other
+ordered_same one other e = cc
+
+-- and one at most
+pub one_demo : Inferring → (number : ℕ) (answer other : Answer) → AnswersDemo number answer → AnswersDemo number other → answer ≡ other
+one_demo laws number answer other is same =
+    let p = demo_program number in
+    let one : is.inferred ≡ same.inferred = ordered_same is.inferred same.inferred (one_inference laws p (follow_all p demo_limits.fuel (demo_recording number).logs) (Ordered is.inferred) (Ordered same.inferred) is.ordered same.ordered) in
+    let machines : is.machine ≡ same.machine = some_same (sym is.runs ∙ ap (λ (i : Inferred). replayed p demo_limits.fuel i.schedule) one ∙ same.runs) in
+    is.shows
+    ∙ ap (λ (i : Inferred). done (summary_report p i.schedule is.machine)) one
+    ∙ ap (λ (m : Machine). done (summary_report p same.inferred.schedule m)) machines
+    ∙ sym same.shows
+
+-- the summary of the recording's logs is the answer
+pub summary_answers : (number : ℕ) (logs : List (List LogEntry)) (report : List ℕ) (before after : ℕ) → logs ≡ (demo_recording number).logs → TellsSummary (demo_program number) demo_limits.fuel logs report before after → AnswersDemo number (done report)
+summary_answers number logs report before after logged told =
+    let P : List (List LogEntry) → Type 0 = λ logs. TellsSummary (demo_program number) demo_limits.fuel logs report before after in
+    let tells = subst P logged told in
+    record { inferred = tells.inferred; ordered = tells.ordered; machine = tells.machine; runs = tells.runs; shows = ap done tells.shows }
