@@ -129,7 +129,7 @@ by_command there limits some (Some command) bytes = by_length there limits some 
 by_words : Laws → (words : List Word) (bytes : List ℕ) → HasLine words ⊎ IsNoLine words → (answer : Answer) × IsAnswer words bytes answer
 by_words there words bytes (inl line) =
     let found = by_command there (limits_of line.0) (in_range words line.0 line.1).some_fuel (offline_named line.0.command) bytes in
-    (found.0, inl (line.0, (line.1, found.1)))
+    (found.0, inl (line.0, line.1, found.1))
 by_words there words bytes (inr none) = (refused Usage, inr (none, refl))
 
 pub an_answer : Laws → AnAnswer

@@ -1,5 +1,5 @@
 -- How long the spelling of a bundle is at most.
-use Rattle.std.proofs.Common.{◌∙◌, ℕ, zero, suc, ◌+◌, ◌*◌, ◌-◌, ◌/◌, ◌%◌, ◌^◌, ◌<◌, ◌≤◌, Bool, true, false, cond, List, [], ◌∷◌, ◌++◌, ap, arith, length, nat_lt}
+use Rattle.std.proofs.Common.{◌≡◌, ◌∙◌, lt-ltb, ℕ, zero, suc, ◌+◌, ◌*◌, ◌-◌, ◌/◌, ◌%◌, ◌^◌, ◌<◌, ◌≤◌, Bool, true, false, cond, List, [], ◌∷◌, ◌++◌, ap, arith, length, nat_lt}
 use Rattle.std.proofs.lemmas.List.{length-append, length-map}
 use Rattle.std.proofs.lemmas.List.Concat.{flat_map-cons}
 use Rattle.std.specs.List.{AllByRecursion, flat_map}
@@ -24,7 +24,7 @@ groups_short zero n = omega arith
 groups_short (suc most) n = by_size most n (nat_lt n 128) (groups most (n / 128)) (groups_short most (n / 128))
 
 -- the numbers of so many groups and one more are below this
-greatest_of : ℕ → ℕ
+abbrev greatest_of : ℕ → ℕ
 greatest_of zero = 128
 greatest_of (suc more) = 128 * greatest_of more
 
@@ -38,7 +38,7 @@ by_one n false rest is = absurd (cc)
 
 -- a small number has few groups
 groups_few : (most more n : ℕ) → n < greatest_of more → length (groups most n) ≤ suc more
-unfolding (groups, greatest_of)
+unfolding groups
 groups_few zero more n below = omega arith
 groups_few (suc most) zero n below = by_one n (nat_lt n 128) (groups most (n / 128)) (lt-ltb n 128 below)
 groups_few (suc most) (suc more) n below =
@@ -47,7 +47,6 @@ groups_few (suc most) (suc more) n below =
 
 -- a number of a `u32`, and twice such a one, has at most five groups
 five : (n : ℕ) → n < 2 ^ 33 → length (groups 9 n) ≤ 5
-unfolding greatest_of
 five n below = groups_few 9 4 n (omega (arith, below))
 
 by_order : (lower : Bool) (before bound : ℕ) → before < 2 ^ 32 → bound < 2 ^ 32 → cond lower (2 * (before - bound) - 1) (2 * (bound - before)) < 2 ^ 33
@@ -68,7 +67,7 @@ entry_short before (Read bound value) small is =
 entry_short before (Write number) small is = let one = five number (omega (arith, is)) in omega (arith, one)
 entry_short before (Enter turn) small is = let one = five turn (omega (arith, is)) in omega (arith, one)
 entry_short before (Update number old) small is =
-    let below = is.1.0 in
+    let below = is.1 in
     let both = two_short (groups 9 old) (groups 9 number) (groups_short 9 old) (five number (omega (arith, below))) in
     omega (arith, both)
 

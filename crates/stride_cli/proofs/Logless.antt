@@ -50,8 +50,8 @@ module _ (status : Status) (of_logs : IsOfLogs status) (limits : Limits) where
   not_played None refusal never is = never is
 
   not_followed : (p : Listing) (r : Result (List ℕ) LineFault) → refused status ≡ with_order (followed limits p) r → ⊥
-  not_followed limits p (Err fault) is = of_logs.program _ (status_is _ _ is)
-  not_followed limits p (Ok order) is = not_played (replayed p _ order) _ (λ e. of_logs.member _ _ (status_is _ _ e)) is
+  not_followed p (Err fault) is = of_logs.program _ (status_is _ _ is)
+  not_followed p (Ok order) is = not_played (replayed p _ order) _ (λ e. of_logs.member _ _ (status_is _ _ e)) is
 
   not_judged : (text : List ℕ) (verdict : Option Fault) (accepted : Answer) → (refused status ≡ accepted → ⊥) → refused status ≡ judged text verdict accepted → ⊥
   not_judged text (Some fault) accepted never is = of_logs.program _ (status_is _ _ is)
@@ -89,7 +89,7 @@ module _ (status : Status) (of_logs : IsOfLogs status) (limits : Limits) where
     -- a command that reads no logs has no such answer
     no_logs : (command : Command) → AnswersInput limits command bytes (refused status) → OnLogless (Some command) ⊥
     no_logs Check is = not_spelled bytes (spelled bytes) _ (λ p e. of_logs.done (status_is _ _ e)) is
-    no_logs Follow is = not_spelled (program_part bytes) (spelled (program_part bytes)) _ (λ p e. not_followed limits p (order_of bytes) e) is
+    no_logs Follow is = not_spelled (program_part bytes) (spelled (program_part bytes)) _ (λ p e. not_followed p (order_of bytes) e) is
     no_logs Sim is = not_simulated (program_part bytes) (spelled (program_part bytes)) is
     no_logs Show is = not_shown (reading bytes) is
     no_logs Upgrade is = not_upgraded (reading bytes) is

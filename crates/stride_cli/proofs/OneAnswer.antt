@@ -17,7 +17,7 @@ use Rattle.log_format.specs.Reading.{reading, Refusal as FormatRefusal}
 use Rattle.assembler.specs.Programs.{LineFault, spelled}
 use Rattle.stride_cli.specs.declared.words.Command.{Command}
 use Rattle.stride_cli.specs.declared.words.Command.TheVariants.{Check, Follow, Infer, Replay, Show, Sim, Upgrade}
-use Rattle.stride_cli.specs.Answers.{Answer, AnswersBundle, AnswersBy, AnswersInference, AnswersInput, AnswersLinks, AnswersLogs, AnswersOrder, AnswersProgram, AnswersRecorded, AnswersRecording, AnswersRun, AnswersSimulated, AnswersSpelled, AnswersVerdict, done, judged, order_of, program_part, setting_of}
+use Rattle.stride_cli.specs.Answers.{Answer, AnswersBundle, AnswersBy, AnswersInference, AnswersInput, AnswersLinks, AnswersLogs, AnswersOrder, AnswersProgram, AnswersRecorded, AnswersRecording, AnswersRun, AnswersSettings, AnswersSimulated, AnswersSpelled, AnswersVerdict, IsAnswer, done, judged, order_of, program_part, setting_of}
 use Rattle.stride_cli.specs.Inferring.{Circular, Diverging, Inference, Inferred, Ordered, Unlinked}
 use Rattle.stride_cli.specs.Laws.{OneAnswer}
 use Rattle.stride_cli.specs.Reports.{replay_report, sim_report}
@@ -128,8 +128,8 @@ by_command laws one limits (Some command) bytes answer other is same =
 
 by_words : OneReading → Laws → OneVerdict → (words : List Word) (bytes : List ℕ) (answer other : Answer) → IsAnswer words bytes answer → IsAnswer words bytes other → answer ≡ other
 by_words reading laws one words bytes answer other (inl is) same =
-    by_command laws one (limits_of is.0) (offline_named is.0.command) bytes answer other is.1.1 (of_line reading (AnswersSettings bytes) words other same is.0 is.1.0)
-by_words reading laws one words bytes answer other (inr is) (inl same) = absurd (is.0 same.0 same.1.0)
+    by_command laws one (limits_of is.0) (offline_named is.0.command) bytes answer other is.2 (of_line reading (AnswersSettings bytes) words other same is.0 is.1)
+by_words reading laws one words bytes answer other (inr is) (inl same) = absurd (is.0 same.0 same.1)
 by_words reading laws one words bytes answer other (inr is) (inr same) = is.1 ∙ sym same.1
 
 pub one_answer : OneReading → Laws → OneVerdict → OneAnswer

@@ -1,6 +1,7 @@
 -- What `bundle` puts is the bundle of the recording that was made.
-use Rattle.std.proofs.Common.{◌≡◌, ◌∙◌, ℕ, ◌<◌, ◌≤◌, List, Ok, sym, ap, subst, length}
+use Rattle.std.proofs.Common.{◌≡◌, ◌∙◌, ℕ, ◌<◌, ◌≤◌, List, Result, Ok, Err, IfOk, sym, ap, subst, length}
 use Rattle.stride_isa.specs.Listing.{Listing}
+use Rattle.stride_base.specs.Listed.{Listed}
 use Rattle.stride_base.specs.declared.limits.TheConstants.{INPUT_LIMIT}
 use Rattle.assembler.specs.Canonical.{canonical, canonical_limit}
 use Rattle.assembler.specs.Programs.{spelled}
@@ -31,3 +32,8 @@ bundle_answers limits p logs text report logged printed short read_back put fits
       text = subst Q printed read_back;
       shows = ap done (put ∙ ap (spelling Two) same);
     }
+
+-- the same of a spelling that want of memory may have kept from being made
+pub bundle_if_made : {E : Type 0} (limits : Limits) (p : Listing) (logs : List (List LogEntry)) (text : List ℕ) (result : Result (Listed ℕ) E) → IsLogged limits p logs → text ≡ canonical p → length text < canonical_limit → spelled text ≡ Ok p → IfOk result (λ bytes. bytes.items ≡ spelling Two (bundled limits text logs)) → IfOk result (λ _. IsInRange Two (bundled limits text logs)) → IfOk result (λ report. AnswersLiveBundle limits p (done report.items))
+bundle_if_made limits p logs text (Ok bytes) logged printed short read_back put fits = bundle_answers limits p logs text bytes.items logged printed short read_back put fits
+bundle_if_made limits p logs text (Err e) logged printed short read_back put fits = tt

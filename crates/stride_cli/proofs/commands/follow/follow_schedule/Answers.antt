@@ -1,10 +1,16 @@
 use Rattle.std.proofs.Common.{◌≡◌, ◌++◌, refl}
+use Rattle.std.proofs.lemmas.Result.{err_from_is_err_and}
 use Rattle.std.specs.Prelude.{codes}
 use Rattle.replayer.specs.Replays.{seen}
 use Rattle.stride_cli.specs.LimitsSeen.{limits_seen}
 use Rattle.stride_cli.specs.Reports.{ends_section}
 use Rattle.stride_cli.proofs.Followed.{followed_done, replay_refused}
 use Rattle.stride_cli.proofs.commands.follow.follow_schedule.Goals as goal
+
+pub returns-in_err-input : goal.returns-in_err-input
+returns-in_err-input c =
+    let p = err_from_is_err_and c.from_residual.result c.from_residual.ensures.1 in
+    rw (p.1, p.2) (c.in_err-input.ensures.follow (limits_seen c.args.limits))
 
 pub returns : goal.returns
 returns c =
