@@ -1,7 +1,7 @@
 -- What the words of a line set, and what is answered to them.
 use Rattle.std.proofs.Common.{◌≡◌, ◌↔◌, ◌≤◌, inl, inr, ℕ, List, [], ◌∷◌, Option, Some, None, IfSome, refl, subst, arith, unwrap_or}
 use Rattle.command_words.specs.Laws.{OneReading}
-use Rattle.command_words.specs.Words.{IsLine, Sets, Setting, Word, fuel, patience, form, given}
+use Rattle.command_words.specs.Words.{IsLine, Sets, Word, fuel, patience, form, given}
 use Rattle.command_words.specs.declared.settings.Settings.{Settings}
 use Rattle.stride_cli.specs.declared.status.Status.{Status}
 use Rattle.stride_cli.specs.declared.status.Status.TheVariants.{Done, Usage, ReadFault, TooLong, Program, Bundle, Diverges, NoLinkage, NotEnabled, WriteFault, NoMemory}

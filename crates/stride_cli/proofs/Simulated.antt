@@ -24,7 +24,7 @@ use Rattle.stride_cli.specs.Inputs.{Accepts, IsInput}
 use Rattle.stride_cli.specs.Looks.{followed_looks, printing_looks, simulated_looks}
 use Rattle.stride_cli.specs.Playing.{IsPlayed, TellsLogs}
 use Rattle.stride_cli.specs.Refusals.{of_drive}
-use Rattle.stride_cli.specs.Reports.{links_section, logs_section, schedule_section, sim_report}
+use Rattle.stride_cli.specs.Reports.{links_section, logs_section, schedule_section}
 use Rattle.stride_cli.specs.Runs.{run_section}
 use Rattle.stride_cli.specs.Settings.{Limits}
 use Rattle.stride_cli.proofs.Bundles.{only_programs, unaccepted}

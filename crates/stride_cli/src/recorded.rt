@@ -10,9 +10,9 @@ ghost use Rattle.stride_cli.specs.Looks.{inferring_looks};
 ghost use Rattle.stride_cli.specs.Playing.{IsPlayed};
 
 use crate::inferring::{Order, order_events};
+use crate::limits::Limits;
 use crate::refusal::Refusal;
 use crate::replaying::replay_events;
-use crate::limits::Limits;
 use interleavings::{LogEntry, Traces};
 use replayer::Replay;
 use std::alloc::Global;

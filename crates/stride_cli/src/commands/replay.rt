@@ -30,11 +30,7 @@ fn put_run(report: &mut List<u8>, played: &Replay) -> Result<(), NoMemory>
 }
 
 /// Appends the sections of a schedule and of its run.
-pub fn put_replay(
-    report: &mut List<u8>,
-    schedule: &[u8],
-    played: &Replay,
-) -> Result<(), NoMemory>
+pub fn put_replay(report: &mut List<u8>, schedule: &[u8], played: &Replay) -> Result<(), NoMemory>
     requires { length played.now.ends.items ≤ THREAD_LIMIT }
     ensures { OnOk result (report.new.items ≡ report.old.items ++ (schedule_section schedule.now ++ run_section (seen played.now))) }
 {

@@ -45,7 +45,11 @@ fn report_recording<L: Ledger>(
     drop(logs);
     let replayed = play_recorded(alloc, program, limits, &traces, steps)?;
     let mut report = List::new(alloc);
-    put_replay(&mut report, replayed.order.schedule.as_slice(), &replayed.played)?;
+    put_replay(
+        &mut report,
+        replayed.order.schedule.as_slice(),
+        &replayed.played,
+    )?;
     Ok(report)
 }
 

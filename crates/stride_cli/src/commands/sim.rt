@@ -42,7 +42,11 @@ fn report_logs<L: Ledger>(
     let mut report = List::new(alloc);
     put_logs(&mut report, logs.as_slice())?;
     put_links(&mut report, &traces, &replayed.order.links, steps)?;
-    put_replay(&mut report, replayed.order.schedule.as_slice(), &replayed.played)?;
+    put_replay(
+        &mut report,
+        replayed.order.schedule.as_slice(),
+        &replayed.played,
+    )?;
     Ok(report)
 }
 
