@@ -3,6 +3,7 @@
 
 ghost use Rattle.std.specs.Prelude.{◌≡◌, ◌<◌};
 
+use command_words::what_is_wrong;
 use recorder::OpenGate;
 use std::alloc::{AllocError, Global};
 use std::io::ErrorKind;
@@ -53,6 +54,20 @@ fn run<L: Ledger, R: Threads + Wait + Sync + Input + Print>(
     )
 }
 
+/// One line on standard error, where the command is not done: for words that are refused it tells what is wrong with them.
+fn tell<R: Print>(rt: &R, status: &Status, words: &[&str]) {
+    match status {
+        Status::Done => {}
+        Status::Usage => {
+            let fault = what_is_wrong(words);
+            let _ = eprintln!(rt; "stride: {fault}; {status}");
+        }
+        _ => {
+            let _ = eprintln!(rt; "stride: {status}");
+        }
+    }
+}
+
 fn status_of<R: Threads + Wait + Sync + Input + Print>(
     rt: &R,
     alloc: Global,
@@ -60,18 +75,25 @@ fn status_of<R: Threads + Wait + Sync + Input + Print>(
 ) -> Status {
     let words: Result<Vec<&str>, AllocError> = args.iter().map(|word| word.as_str()).collect(alloc);
     match words {
-        Ok(words) => run::<Brand, R>(rt, alloc, &words, Blank::new(1)),
-        Err(_) => Status::NoMemory,
+        Ok(words) => {
+            let status = run::<Brand, R>(rt, alloc, &words, Blank::new(1));
+            tell(rt, &status, &words);
+            status
+        }
+        Err(_) => {
+            tell(rt, &Status::NoMemory, &[]);
+            Status::NoMemory
+        }
     }
 }
 
 fn main(rt: HostRuntime) -> ExitCode {
     let status = match words_of(&rt) {
         Ok(args) => status_of(&rt, rt.alloc(), &args),
-        Err(status) => status,
+        Err(status) => {
+            let _ = eprintln!(rt; "stride: {status}");
+            status
+        }
     };
-    if status.code() != 0 {
-        let _ = eprintln!(rt; "stride: {status}");
-    }
     ExitCode::from(status.code())
 }

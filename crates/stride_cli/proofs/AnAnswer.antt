@@ -1,5 +1,5 @@
 -- Words and bytes have an answer.
-use Rattle.std.proofs.Common.{◌≡◌, ◌⊎◌, inl, inr, ℕ, Bool, true, false, List, Option, Some, None, Result, Ok, Err, refl, subst, sym, length, nat_lt}
+use Rattle.std.proofs.Common.{◌≡◌, ◌≤◌, ◌⊎◌, inl, inr, ℕ, Bool, true, false, List, Option, Some, None, Result, Ok, Err, refl, length, nat_lt}
 use Rattle.std.specs.Bool.{MatchBool}
 use Rattle.stride_base.specs.declared.limits.TheConstants.{INPUT_LIMIT}
 use Rattle.stride_isa.specs.Faults.{Fault, IsVerdict}
@@ -18,18 +18,21 @@ use Rattle.event_order.specs.Cycles.{IsCycle, IsTheCycle}
 use Rattle.event_order.specs.DirectOrder.{LinkRows}
 use Rattle.event_order.specs.Laws.{ExtensionsAreRuns, LeastOrCycle, traces_of}
 use Rattle.event_order.specs.Least.{IsLeast}
+use Rattle.command_words.specs.Words.{Word}
 use Rattle.log_format.specs.Bundles.{Bundled}
 use Rattle.log_format.specs.Laws.{FuelIsInRange}
 use Rattle.log_format.specs.Reading.{reading, Refusal as FormatRefusal}
 use Rattle.stride_cli.specs.declared.words.Command.{Command}
 use Rattle.stride_cli.specs.declared.words.Command.TheVariants.{Check, Follow, Infer, Replay, Show, Sim, Upgrade}
 use Rattle.stride_cli.specs.declared.status.Status.TheVariants.{Bundle, Diverges, Usage, TooLong}
-use Rattle.stride_cli.specs.Answers.{Answer, AnswersBundle, AnswersBy, AnswersInference, AnswersInput, AnswersLinks, AnswersLogs, AnswersProgram, AnswersRun, AnswersSpelled, AnswersVerdict, circular, done, judged, program_part, refused, refused_code, refused_text, shown, unlinked, upgraded}
+use Rattle.stride_cli.specs.Answers.{Answer, AnswersBundle, AnswersBy, AnswersInference, AnswersInput, AnswersLinks, AnswersLogs, AnswersProgram, AnswersRun, AnswersSpelled, AnswersVerdict, IsAnswer, circular, done, judged, program_part, refused, refused_code, refused_text, shown, unlinked, upgraded}
 use Rattle.stride_cli.specs.Inferring.{Circular, Diverging, Inference, Inferred, IsInferred, IsInferredBy, IsInferredOf, Ordered, Unlinked}
 use Rattle.stride_cli.specs.Laws.{AnAnswer}
 use Rattle.stride_cli.specs.Reports.{infer_report, replay_report}
-use Rattle.stride_cli.specs.Words.{command_named}
+use Rattle.stride_cli.specs.Settings.{Limits, limits_of}
+use Rattle.stride_cli.specs.Words.{HasLine, IsNoLine, offline_named}
 use Rattle.stride_cli.proofs.LeastRuns.{least_runs}
+use Rattle.stride_cli.proofs.Readings.{in_range}
 use Rattle.stride_cli.proofs.Simulations.{Laws as Recorded, simulation}
 
 text_answer : HasVerdict → (text : List ℕ) (s : Result Listing LineFault) (accepted : Listing → Answer) → (answer : Answer) × AnswersSpelled text s accepted answer
@@ -106,22 +109,28 @@ module _ (there : Laws) (bytes : List ℕ) where
     bundle_answer (Err refusal) reads = (refused (Bundle refusal.kind refusal.offset), refl)
     bundle_answer (Ok bundle) reads = program_answer bundle reads (spelled bundle.text)
 
-input_answer : Laws → (command : Command) (bytes : List ℕ) → (answer : Answer) × AnswersInput command bytes answer
-input_answer there Check bytes = text_answer there.verdict bytes (spelled bytes) _
-input_answer there Follow bytes = text_answer there.verdict (program_part bytes) (spelled (program_part bytes)) _
-input_answer there Sim bytes = simulation there.recordings there.verdict bytes
-input_answer there Show bytes = (shown (reading bytes), refl)
-input_answer there Upgrade bytes = (upgraded (reading bytes), refl)
-input_answer there Infer bytes = bundle_answer there bytes AnswersLinks (shown_links there bytes) (reading bytes) refl
-input_answer there Replay bytes = bundle_answer there bytes AnswersRun (shown_run there bytes) (reading bytes) refl
+input_answer : Laws → (limits : Limits) → 1 ≤ limits.fuel → (command : Command) (bytes : List ℕ) → (answer : Answer) × AnswersInput limits command bytes answer
+input_answer there limits some Check bytes = text_answer there.verdict bytes (spelled bytes) _
+input_answer there limits some Follow bytes = text_answer there.verdict (program_part bytes) (spelled (program_part bytes)) _
+input_answer there limits some Sim bytes = simulation there.recordings limits some there.verdict bytes
+input_answer there limits some Show bytes = (shown (reading bytes), refl)
+input_answer there limits some Upgrade bytes = (upgraded (reading bytes), refl)
+input_answer there limits some Infer bytes = bundle_answer there bytes AnswersLinks (shown_links there bytes) (reading bytes) refl
+input_answer there limits some Replay bytes = bundle_answer there bytes AnswersRun (shown_run there bytes) (reading bytes) refl
 
-by_length : Laws → (too_long : Bool) (command : Command) (bytes : List ℕ) → (answer : Answer) × MatchBool too_long (answer ≡ refused TooLong) (AnswersInput command bytes answer)
-by_length there true command bytes = (refused TooLong, refl)
-by_length there false command bytes = input_answer there command bytes
+by_length : Laws → (limits : Limits) → 1 ≤ limits.fuel → (too_long : Bool) (command : Command) (bytes : List ℕ) → (answer : Answer) × MatchBool too_long (answer ≡ refused TooLong) (AnswersInput limits command bytes answer)
+by_length there limits some true command bytes = (refused TooLong, refl)
+by_length there limits some false command bytes = input_answer there limits some command bytes
 
-by_command : Laws → (named : Option Command) (bytes : List ℕ) → (answer : Answer) × AnswersBy named bytes answer
-by_command there None bytes = (refused Usage, refl)
-by_command there (Some command) bytes = by_length there (nat_lt INPUT_LIMIT (length bytes)) command bytes
+by_command : Laws → (limits : Limits) → 1 ≤ limits.fuel → (named : Option Command) (bytes : List ℕ) → (answer : Answer) × AnswersBy limits named bytes answer
+by_command there limits some None bytes = (refused Usage, refl)
+by_command there limits some (Some command) bytes = by_length there limits some (nat_lt INPUT_LIMIT (length bytes)) command bytes
+
+by_words : Laws → (words : List Word) (bytes : List ℕ) → HasLine words ⊎ IsNoLine words → (answer : Answer) × IsAnswer words bytes answer
+by_words there words bytes (inl line) =
+    let found = by_command there (limits_of line.0) (in_range words line.0 line.1).some_fuel (offline_named line.0.command) bytes in
+    (found.0, inl (line.0, line.1, found.1))
+by_words there words bytes (inr none) = (refused Usage, inr (none, refl))
 
 pub an_answer : Laws → AnAnswer
-an_answer there = λ words bytes. by_command there (command_named words) bytes
+an_answer there = λ words bytes read. by_words there words bytes read

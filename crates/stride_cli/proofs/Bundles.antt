@@ -18,10 +18,9 @@ use Rattle.stride_cli.specs.declared.status.ProgramFault.{ProgramFault}
 use Rattle.stride_cli.specs.declared.status.Status.{Status}
 use Rattle.stride_cli.specs.declared.status.Status.TheVariants.{Done, Program}
 use Rattle.stride_cli.specs.declared.status.Status.TheVariants as statuses
-use Rattle.stride_cli.specs.declared.words.Command.{Command}
-use Rattle.stride_cli.specs.Answers.{Answer, AnswersBundle, AnswersInference, AnswersInput, AnswersLogs, AnswersProgram, AnswersSpelled, AnswersVerdict, done, judged, refused}
+use Rattle.stride_cli.specs.Answers.{Answer, AnswersBundle, AnswersInference, AnswersLogs, AnswersProgram, AnswersSpelled, AnswersVerdict, done, judged, refused}
 use Rattle.stride_cli.specs.Bundles.{IsRerun, Nothing, RefusesEvents}
-use Rattle.stride_cli.specs.Gives.{Refuses}
+use Rattle.stride_cli.specs.Gives.{RefusesBy}
 use Rattle.stride_cli.specs.Inferring.{Circular, Diverging, Inference, Inferred, IsInferredBy, IsInferredOf, Ordered, Unlinked}
 use Rattle.stride_cli.specs.Inputs.{Accepts}
 use Rattle.stride_cli.specs.Refusals.{of_rerun}
@@ -76,48 +75,47 @@ module _ (Shows : Listing → Bundled → Inferred → Answer → Type 0) (bytes
       to_logs rerun.bundle p answer rerun.reads rerun.program rerun.valid
       (inference, (subst Q (sym rerun.follows) (subst P rerun.traces_are is), shows))
 
-  module _ (command : Command) (fits : (answer : Answer) → AnswersBundle Shows (reading bytes) answer → AnswersInput command bytes answer) where
-    -- the refusal of the text of a bundle
-    accept_refused : (bundle : Bundled) (refusal : Refusal) → reading bytes ≡ Ok bundle → Accepts bundle.text (Err refusal) → Refuses command bytes refusal
-    accept_refused bundle (refusals.Program fault) reads is =
-        fits _ (to_program bundle _ reads (unaccepted bundle.text (spelled bundle.text) (AnswersLogs Shows bundle) (statuses.Program fault) (λ e. cc) (is (λ p. done []))))
-    accept_refused bundle (refusals.Bundle kind offset) reads is =
-        absurd (only_programs bundle.text (spelled bundle.text) (statuses.Bundle kind offset) (λ e. cc) (λ fault e. cc) (is (λ p. done [])))
-    accept_refused bundle (refusals.Diverges thread place) reads is =
-        absurd (only_programs bundle.text (spelled bundle.text) (statuses.Diverges thread place) (λ e. cc) (λ fault e. cc) (is (λ p. done [])))
-    accept_refused bundle (refusals.NoLinkage fault) reads is =
-        absurd (only_programs bundle.text (spelled bundle.text) (statuses.NoLinkage fault) (λ e. cc) (λ fault e. cc) (is (λ p. done [])))
-    accept_refused bundle (refusals.NotEnabled place fault) reads is =
-        absurd (only_programs bundle.text (spelled bundle.text) (statuses.NotEnabled place fault) (λ e. cc) (λ fault e. cc) (is (λ p. done [])))
-    accept_refused bundle refusals.NoMemory reads is = tt
+  -- the refusal of the text of a bundle
+  accept_refused : (bundle : Bundled) (refusal : Refusal) → reading bytes ≡ Ok bundle → Accepts bundle.text (Err refusal) → RefusesBy (AnswersBundle Shows (reading bytes)) refusal
+  accept_refused bundle (refusals.Program fault) reads is =
+      (to_program bundle _ reads (unaccepted bundle.text (spelled bundle.text) (AnswersLogs Shows bundle) (statuses.Program fault) (λ e. cc) (is (λ p. done []))))
+  accept_refused bundle (refusals.Bundle kind offset) reads is =
+      absurd (only_programs bundle.text (spelled bundle.text) (statuses.Bundle kind offset) (λ e. cc) (λ fault e. cc) (is (λ p. done [])))
+  accept_refused bundle (refusals.Diverges thread place) reads is =
+      absurd (only_programs bundle.text (spelled bundle.text) (statuses.Diverges thread place) (λ e. cc) (λ fault e. cc) (is (λ p. done [])))
+  accept_refused bundle (refusals.NoLinkage fault) reads is =
+      absurd (only_programs bundle.text (spelled bundle.text) (statuses.NoLinkage fault) (λ e. cc) (λ fault e. cc) (is (λ p. done [])))
+  accept_refused bundle (refusals.NotEnabled place fault) reads is =
+      absurd (only_programs bundle.text (spelled bundle.text) (statuses.NotEnabled place fault) (λ e. cc) (λ fault e. cc) (is (λ p. done [])))
+  accept_refused bundle refusals.NoMemory reads is = tt
 
-    -- the same of a text that is lent
-    pub lent_refused : (bundle : Bundled) (lent : List ℕ) (refusal : Refusal) → reading bytes ≡ Ok bundle → lent ≡ bundle.text → Accepts lent (Err refusal) → Refuses command bytes refusal
-    lent_refused bundle lent refusal reads same is =
-        let P : List ℕ → Type 0 = λ text. Accepts text (Err refusal) in
-        accept_refused bundle refusal reads (subst P same is)
+  -- the same of a text that is lent
+  pub lent_refused : (bundle : Bundled) (lent : List ℕ) (refusal : Refusal) → reading bytes ≡ Ok bundle → lent ≡ bundle.text → Accepts lent (Err refusal) → RefusesBy (AnswersBundle Shows (reading bytes)) refusal
+  lent_refused bundle lent refusal reads same is =
+      let P : List ℕ → Type 0 = λ text. Accepts text (Err refusal) in
+      accept_refused bundle refusal reads (subst P same is)
 
-    -- the refusal of logs from which a thread diverges
-    pub rerun_refused : (bundle : Bundled) (p : Listing) (error : RerunError) → reading bytes ≡ Ok bundle → spelled bundle.text ≡ Ok p → IsValid p → IsAnswer (Err error) (again p bundle.fuel bundle.logs) → Refuses command bytes (of_rerun error)
-    rerun_refused bundle p (reruns.Diverges thread place) reads program valid is =
-        let divergence : Divergence = record { thread = thread; place = place } in
-        let Q : Result (List Followed) Divergence → Type 0 = λ r. IsInferredBy p r (Diverging divergence) in
-        fits _ (to_logs bundle p _ reads program valid (Diverging divergence, (subst Q (sym (again_err p (follow_all p bundle.fuel bundle.logs) divergence is)) refl, refl)))
-    rerun_refused bundle p reruns.NoMemory reads program valid is = tt
+  -- the refusal of logs from which a thread diverges
+  pub rerun_refused : (bundle : Bundled) (p : Listing) (error : RerunError) → reading bytes ≡ Ok bundle → spelled bundle.text ≡ Ok p → IsValid p → IsAnswer (Err error) (again p bundle.fuel bundle.logs) → RefusesBy (AnswersBundle Shows (reading bytes)) (of_rerun error)
+  rerun_refused bundle p (reruns.Diverges thread place) reads program valid is =
+      let divergence : Divergence = record { thread = thread; place = place } in
+      let Q : Result (List Followed) Divergence → Type 0 = λ r. IsInferredBy p r (Diverging divergence) in
+      (to_logs bundle p _ reads program valid (Diverging divergence, (subst Q (sym (again_err p (follow_all p bundle.fuel bundle.logs) divergence is)) refl, refl)))
+  rerun_refused bundle p reruns.NoMemory reads program valid is = tt
 
-    -- what refuses events refuses the bundle, whatever is answered to links with a schedule
-    shown_too : (p : Listing) (bundle : Bundled) (inference : Inference) (answer : Answer) → AnswersInference Nothing inference answer → AnswersInference (Shows p bundle) inference answer
-    shown_too p bundle (Diverging divergence) answer is = is
-    shown_too p bundle (Unlinked refusal) answer is = is
-    shown_too p bundle (Circular cycle) answer is = is
-    shown_too p bundle (Ordered inferred) answer is = absurd is
+  -- what refuses events refuses the bundle, whatever is answered to links with a schedule
+  shown_too : (p : Listing) (bundle : Bundled) (inference : Inference) (answer : Answer) → AnswersInference Nothing inference answer → AnswersInference (Shows p bundle) inference answer
+  shown_too p bundle (Diverging divergence) answer is = is
+  shown_too p bundle (Unlinked refusal) answer is = is
+  shown_too p bundle (Circular cycle) answer is = is
+  shown_too p bundle (Ordered inferred) answer is = absurd is
 
-    -- the refusal of the events of a bundle
-    pub events_refused : (p : Listing) (fuel : ℕ) (traces : TraceLists) (refusal : Refusal) → IsRerun bytes p fuel traces → RefusesEvents traces refusal → Refuses command bytes refusal
-    events_refused p fuel traces (refusals.NoLinkage fault) rerun is =
-        fits _ (to_events p fuel traces is.0 _ rerun is.1.0 (shown_too p rerun.bundle is.0 _ is.1.1))
-    events_refused p fuel traces (refusals.Program fault) rerun is = absurd is
-    events_refused p fuel traces (refusals.Bundle kind offset) rerun is = absurd is
-    events_refused p fuel traces (refusals.Diverges thread place) rerun is = absurd is
-    events_refused p fuel traces (refusals.NotEnabled place fault) rerun is = absurd is
-    events_refused p fuel traces refusals.NoMemory rerun is = tt
+  -- the refusal of the events of a bundle
+  pub events_refused : (p : Listing) (fuel : ℕ) (traces : TraceLists) (refusal : Refusal) → IsRerun bytes p fuel traces → RefusesEvents traces refusal → RefusesBy (AnswersBundle Shows (reading bytes)) refusal
+  events_refused p fuel traces (refusals.NoLinkage fault) rerun is =
+      (to_events p fuel traces is.0 _ rerun is.1.0 (shown_too p rerun.bundle is.0 _ is.1.1))
+  events_refused p fuel traces (refusals.Program fault) rerun is = absurd is
+  events_refused p fuel traces (refusals.Bundle kind offset) rerun is = absurd is
+  events_refused p fuel traces (refusals.Diverges thread place) rerun is = absurd is
+  events_refused p fuel traces (refusals.NotEnabled place fault) rerun is = absurd is
+  events_refused p fuel traces refusals.NoMemory rerun is = tt

@@ -12,6 +12,7 @@ pub mod LivePrograms
 pub mod Logless
 pub mod Members
 pub mod OneAnswer
+pub mod Readings
 pub mod RecordedBundles
 pub mod RecordedRuns
 pub mod Recordings

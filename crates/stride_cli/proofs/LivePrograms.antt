@@ -15,44 +15,45 @@ use Rattle.stride_cli.specs.Answers.{Answer, AnswersProgram, AnswersVerdict, don
 use Rattle.stride_cli.specs.GivesLive.{RefusesLive}
 use Rattle.stride_cli.specs.Inputs.{Accepts}
 use Rattle.stride_cli.specs.LiveAnswers.{AnswersLive, AnswersLiveInput}
+use Rattle.stride_cli.specs.Settings.{Limits}
 use Rattle.stride_cli.proofs.Bundles.{only_programs, unaccepted}
 
 -- the refusal of a text
-text_refused : (live : Live) (bytes : List ℕ) (refusal : Refusal) → Accepts bytes (Err refusal) → RefusesLive live bytes refusal
-text_refused live bytes (refusals.Program fault) is = unaccepted bytes (spelled bytes) (AnswersLive live) (statuses.Program fault) (λ e. cc) (is (λ p. done []))
-text_refused live bytes (refusals.Bundle kind offset) is =
+text_refused : (limits : Limits) (live : Live) (bytes : List ℕ) (refusal : Refusal) → Accepts bytes (Err refusal) → RefusesLive limits live bytes refusal
+text_refused limits live bytes (refusals.Program fault) is = unaccepted bytes (spelled bytes) (AnswersLive limits live) (statuses.Program fault) (λ e. cc) (is (λ p. done []))
+text_refused limits live bytes (refusals.Bundle kind offset) is =
     only_programs bytes (spelled bytes) (statuses.Bundle kind offset) (λ e. cc) (λ fault e. cc) (is (λ p. done []))
-text_refused live bytes (refusals.Diverges thread place) is =
+text_refused limits live bytes (refusals.Diverges thread place) is =
     only_programs bytes (spelled bytes) (statuses.Diverges thread place) (λ e. cc) (λ fault e. cc) (is (λ p. done []))
-text_refused live bytes (refusals.NoLinkage fault) is =
+text_refused limits live bytes (refusals.NoLinkage fault) is =
     only_programs bytes (spelled bytes) (statuses.NoLinkage fault) (λ e. cc) (λ fault e. cc) (is (λ p. done []))
-text_refused live bytes (refusals.NotEnabled place fault) is =
+text_refused limits live bytes (refusals.NotEnabled place fault) is =
     only_programs bytes (spelled bytes) (statuses.NotEnabled place fault) (λ e. cc) (λ fault e. cc) (is (λ p. done []))
-text_refused live bytes refusals.NoMemory is = tt
+text_refused limits live bytes refusals.NoMemory is = tt
 
 -- the same of a text that is lent
-pub lent_refused : (live : Live) (bytes lent : List ℕ) (refusal : Refusal) → lent ≡ bytes → Accepts lent (Err refusal) → RefusesLive live bytes refusal
-lent_refused live bytes lent refusal same is =
+pub lent_refused : (limits : Limits) (live : Live) (bytes lent : List ℕ) (refusal : Refusal) → lent ≡ bytes → Accepts lent (Err refusal) → RefusesLive limits live bytes refusal
+lent_refused limits live bytes lent refusal same is =
     let P : List ℕ → Type 0 = λ text. Accepts text (Err refusal) in
-    text_refused live bytes refusal (subst P same is)
+    text_refused limits live bytes refusal (subst P same is)
 
 -- what is answered to the valid program that the bytes spell
-pub to_program : (live : Live) (bytes : List ℕ) (p : Listing) (answer : Answer) → spelled bytes ≡ Ok p → IsValid p → AnswersLive live p answer → AnswersLiveInput live bytes answer
-to_program live bytes p answer spells valid is =
-    let Q : Result Listing LineFault → Type 0 = λ s. AnswersProgram bytes s (AnswersLive live) answer in
+pub to_program : (limits : Limits) (live : Live) (bytes : List ℕ) (p : Listing) (answer : Answer) → spelled bytes ≡ Ok p → IsValid p → AnswersLive limits live p answer → AnswersLiveInput limits live bytes answer
+to_program limits live bytes p answer spells valid is =
+    let Q : Result Listing LineFault → Type 0 = λ s. AnswersProgram bytes s (AnswersLive limits live) answer in
     subst Q (sym spells) (None, (valid, is))
 
 -- a live command refuses no valid program
-not_refused : (live : Live) (p : Listing) (fault : ProgramFault) → AnswersLive live p (refused (statuses.Program fault)) → ⊥
-not_refused Run p fault is = let e = ap (λ (answer : Answer). answer.status) is.shows in cc
-not_refused Bundle p fault is = let e = ap (λ (answer : Answer). answer.status) is.shows in cc
+not_refused : (limits : Limits) (live : Live) (p : Listing) (fault : ProgramFault) → AnswersLive limits live p (refused (statuses.Program fault)) → ⊥
+not_refused limits Run p fault is = let e = ap (λ (answer : Answer). answer.status) is.shows in cc
+not_refused limits Bundle p fault is = let e = ap (λ (answer : Answer). answer.status) is.shows in cc
 
-by_verdict : OneVerdict → (live : Live) (bytes : List ℕ) (p : Listing) (fault : ProgramFault) → IsValid p → (verdict : Option Fault) → IsVerdict p verdict → AnswersVerdict bytes verdict (AnswersLive live p) (refused (statuses.Program fault)) → ⊥
-by_verdict law live bytes p fault valid (Some first) judged is = let e = law p None (Some first) valid judged in cc
-by_verdict law live bytes p fault valid None judged is = not_refused live p fault is
+by_verdict : OneVerdict → (limits : Limits) (live : Live) (bytes : List ℕ) (p : Listing) (fault : ProgramFault) → IsValid p → (verdict : Option Fault) → IsVerdict p verdict → AnswersVerdict bytes verdict (AnswersLive limits live p) (refused (statuses.Program fault)) → ⊥
+by_verdict law limits live bytes p fault valid (Some first) judged is = let e = law p None (Some first) valid judged in cc
+by_verdict law limits live bytes p fault valid None judged is = not_refused limits live p fault is
 
-pub program_not_refused : OneVerdict → (live : Live) (bytes : List ℕ) (p : Listing) (fault : ProgramFault) → spelled bytes ≡ Ok p → IsValid p → AnswersLiveInput live bytes (refused (statuses.Program fault)) → ⊥
-program_not_refused law live bytes p fault spells valid is =
-    let Q : Result Listing LineFault → Type 0 = λ s. AnswersProgram bytes s (AnswersLive live) (refused (statuses.Program fault)) in
+pub program_not_refused : OneVerdict → (limits : Limits) (live : Live) (bytes : List ℕ) (p : Listing) (fault : ProgramFault) → spelled bytes ≡ Ok p → IsValid p → AnswersLiveInput limits live bytes (refused (statuses.Program fault)) → ⊥
+program_not_refused law limits live bytes p fault spells valid is =
+    let Q : Result Listing LineFault → Type 0 = λ s. AnswersProgram bytes s (AnswersLive limits live) (refused (statuses.Program fault)) in
     let answered = subst Q spells is in
-    by_verdict law live bytes p fault valid answered.0 answered.1.0 answered.1.1
+    by_verdict law limits live bytes p fault valid answered.0 answered.1.0 answered.1.1

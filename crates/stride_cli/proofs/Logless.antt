@@ -3,8 +3,8 @@ use Rattle.std.proofs.Common.{◌≡◌, ℕ, List, Option, Some, None, Result, 
 use Rattle.stride_isa.specs.Faults.{Fault}
 use Rattle.stride_isa.specs.Listing.{Listing}
 use Rattle.sc_machine.specs.Machine.{Machine}
-use Rattle.sc_machine.specs.Schedule.{refused_place, replayed}
-use Rattle.interleavings.specs.Driving.{driven, stranger}
+use Rattle.sc_machine.specs.Schedule.{replayed}
+use Rattle.interleavings.specs.Driving.{stranger}
 use Rattle.interleavings.specs.Recording.{Recording}
 use Rattle.log_format.specs.Bundles.{Bundled}
 use Rattle.log_format.specs.declared.format_error.FormatKind.{FormatKind}
@@ -18,9 +18,10 @@ use Rattle.stride_cli.specs.declared.status.Status.{Status}
 use Rattle.stride_cli.specs.declared.status.Status.TheVariants.{Bundle, Diverges, Done, NoLinkage, NotEnabled, Program}
 use Rattle.stride_cli.specs.declared.words.Command.{Command}
 use Rattle.stride_cli.specs.declared.words.Command.TheVariants.{Check, Follow, Infer, Replay, Show, Sim, Upgrade}
-use Rattle.stride_cli.specs.Answers.{Answer, AnswersInput, AnswersOrder, AnswersProgram, AnswersRecorded, AnswersSimulated, AnswersSpelled, AnswersVerdict, done, followed, judged, order_of, played, program_part, refused, shown, upgraded, with_order}
+use Rattle.stride_cli.specs.Answers.{Answer, AnswersInput, AnswersOrder, AnswersProgram, AnswersRecorded, AnswersSimulated, AnswersSpelled, AnswersVerdict, followed, judged, order_of, played, program_part, refused, shown, upgraded, with_order}
 use Rattle.stride_cli.specs.Gives.{Refuses}
 use Rattle.stride_cli.specs.Refusals.{status_of}
+use Rattle.stride_cli.specs.Settings.{Limits}
 use Rattle.stride_cli.specs.Telling.{OnLogless, RefusesNoLogs}
 
 -- a fact holds where it is wanted
@@ -43,12 +44,12 @@ record IsOfLogs (status : Status) : Type 0 where
 status_is : (one other : Answer) → one ≡ other → one.status ≡ other.status
 status_is one other is = ap (λ (answer : Answer). answer.status) is
 
-module _ (status : Status) (of_logs : IsOfLogs status) where
+module _ (status : Status) (of_logs : IsOfLogs status) (limits : Limits) where
   not_played : (run : Option Machine) (refusal : Answer) → (refused status ≡ refusal → ⊥) → refused status ≡ played run refusal → ⊥
   not_played (Some m) refusal never is = of_logs.done (status_is _ _ is)
   not_played None refusal never is = never is
 
-  not_followed : (p : Listing) (r : Result (List ℕ) LineFault) → refused status ≡ with_order (followed p) r → ⊥
+  not_followed : (p : Listing) (r : Result (List ℕ) LineFault) → refused status ≡ with_order (followed limits p) r → ⊥
   not_followed p (Err fault) is = of_logs.program _ (status_is _ _ is)
   not_followed p (Ok order) is = not_played (replayed p _ order) _ (λ e. of_logs.member _ _ (status_is _ _ e)) is
 
@@ -68,25 +69,25 @@ module _ (status : Status) (of_logs : IsOfLogs status) where
   not_upgraded (Ok bundle) is = of_logs.done (status_is _ _ is)
   not_upgraded (Err refusal) is = of_logs.bundle _ _ (status_is _ _ is)
 
-  not_recorded : (p : Listing) (found : Option ℕ) (recording : Recording) → AnswersRecorded p found recording (refused status) → ⊥
+  not_recorded : (p : Listing) (found : Option ℕ) (recording : Recording) → AnswersRecorded limits p found recording (refused status) → ⊥
   not_recorded p None recording is = of_logs.done (status_is _ _ is.shows)
   not_recorded p (Some place) recording is = of_logs.member _ _ (status_is _ _ is)
 
-  not_ordered : (p : Listing) (r : Result (List ℕ) LineFault) → AnswersOrder r (AnswersSimulated p) (refused status) → ⊥
+  not_ordered : (p : Listing) (r : Result (List ℕ) LineFault) → AnswersOrder r (AnswersSimulated limits p) (refused status) → ⊥
   not_ordered p (Err fault) is = of_logs.program _ (status_is _ _ is)
   not_ordered p (Ok order) is = not_recorded p (stranger (length p.threads) order) _ is
 
   module _ (bytes : List ℕ) where
-    not_accepted : (text : List ℕ) (p : Listing) (verdict : Option Fault) → AnswersVerdict text verdict (λ answer. AnswersOrder (order_of bytes) (AnswersSimulated p) answer) (refused status) → ⊥
+    not_accepted : (text : List ℕ) (p : Listing) (verdict : Option Fault) → AnswersVerdict text verdict (λ answer. AnswersOrder (order_of bytes) (AnswersSimulated limits p) answer) (refused status) → ⊥
     not_accepted text p (Some fault) is = of_logs.program _ (status_is _ _ is)
     not_accepted text p None is = not_ordered p (order_of bytes) is
 
-    not_simulated : (text : List ℕ) (s : Result Listing LineFault) → AnswersProgram text s (λ p. AnswersOrder (order_of bytes) (AnswersSimulated p)) (refused status) → ⊥
+    not_simulated : (text : List ℕ) (s : Result Listing LineFault) → AnswersProgram text s (λ p. AnswersOrder (order_of bytes) (AnswersSimulated limits p)) (refused status) → ⊥
     not_simulated text (Err fault) is = of_logs.program _ (status_is _ _ is)
     not_simulated text (Ok p) is = not_accepted text p is.0 is.1.1
 
     -- a command that reads no logs has no such answer
-    no_logs : (command : Command) → AnswersInput command bytes (refused status) → OnLogless (Some command) ⊥
+    no_logs : (command : Command) → AnswersInput limits command bytes (refused status) → OnLogless (Some command) ⊥
     no_logs Check is = not_spelled bytes (spelled bytes) _ (λ p e. of_logs.done (status_is _ _ e)) is
     no_logs Follow is = not_spelled (program_part bytes) (spelled (program_part bytes)) _ (λ p e. not_followed p (order_of bytes) e) is
     no_logs Sim is = not_simulated (program_part bytes) (spelled (program_part bytes)) is
@@ -96,19 +97,19 @@ module _ (status : Status) (of_logs : IsOfLogs status) where
     no_logs Replay is = tt
 
 -- a command that reads no logs refuses none
-refuses_no_logs : (command : Command) (bytes : List ℕ) (refusal : Refusal) → Refuses command bytes refusal → OnLogless (Some command) (RefusesNoLogs (status_of refusal))
-refuses_no_logs command bytes (refusals.Program fault) is = filled command _ tt
-refuses_no_logs command bytes (refusals.Bundle kind offset) is = filled command _ tt
-refuses_no_logs command bytes (refusals.Diverges thread place) is =
-    no_logs (Diverges thread place) (record { done = λ e. cc; program = λ fault e. cc; bundle = λ kind offset e. cc; member = λ place fault e. cc }) bytes command is
-refuses_no_logs command bytes (refusals.NoLinkage fault) is =
-    no_logs (NoLinkage _) (record { done = λ e. cc; program = λ fault e. cc; bundle = λ kind offset e. cc; member = λ place fault e. cc }) bytes command is
-refuses_no_logs command bytes (refusals.NotEnabled place fault) is = filled command _ tt
-refuses_no_logs command bytes refusals.NoMemory is = filled command _ tt
+refuses_no_logs : (limits : Limits) (command : Command) (bytes : List ℕ) (refusal : Refusal) → Refuses limits command bytes refusal → OnLogless (Some command) (RefusesNoLogs (status_of refusal))
+refuses_no_logs limits command bytes (refusals.Program fault) is = filled command _ tt
+refuses_no_logs limits command bytes (refusals.Bundle kind offset) is = filled command _ tt
+refuses_no_logs limits command bytes (refusals.Diverges thread place) is =
+    no_logs (Diverges thread place) (record { done = λ e. cc; program = λ fault e. cc; bundle = λ kind offset e. cc; member = λ place fault e. cc }) limits bytes command is
+refuses_no_logs limits command bytes (refusals.NoLinkage fault) is =
+    no_logs (NoLinkage _) (record { done = λ e. cc; program = λ fault e. cc; bundle = λ kind offset e. cc; member = λ place fault e. cc }) limits bytes command is
+refuses_no_logs limits command bytes (refusals.NotEnabled place fault) is = filled command _ tt
+refuses_no_logs limits command bytes refusals.NoMemory is = filled command _ tt
 
 -- the same of the words that name the command, and of the status that tells of the refusal
-pub told_no_logs : (named : Option Command) (command : Command) (bytes : List ℕ) (refusal : Refusal) (status : Status) → named ≡ Some command → status ≡ status_of refusal → Refuses command bytes refusal → OnLogless named (RefusesNoLogs status)
-told_no_logs named command bytes refusal status is told refuses =
+pub told_no_logs : (limits : Limits) (named : Option Command) (command : Command) (bytes : List ℕ) (refusal : Refusal) (status : Status) → named ≡ Some command → status ≡ status_of refusal → Refuses limits command bytes refusal → OnLogless named (RefusesNoLogs status)
+told_no_logs limits named command bytes refusal status is told refuses =
     let P : Option Command → Type 0 = λ c. OnLogless c (RefusesNoLogs status) in
     let Q : Status → Type 0 = λ s. OnLogless (Some command) (RefusesNoLogs s) in
-    subst P (sym is) (subst Q (sym told) (refuses_no_logs command bytes refusal refuses))
+    subst P (sym is) (subst Q (sym told) (refuses_no_logs limits command bytes refusal refuses))

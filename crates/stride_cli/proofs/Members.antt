@@ -18,6 +18,7 @@ use Rattle.stride_cli.specs.Answers.{Answer, AnswersBundle, AnswersInference, An
 use Rattle.stride_cli.specs.Gives.{Refuses}
 use Rattle.stride_cli.specs.Inferring.{Circular, Diverging, Inference, Inferred, Ordered, Unlinked}
 use Rattle.stride_cli.specs.Refusals.{status_of}
+use Rattle.stride_cli.specs.Settings.{Limits}
 use Rattle.stride_cli.specs.Telling.{OnOrderless, RefusesNoMember}
 
 -- a fact holds where it is wanted
@@ -87,27 +88,27 @@ module _ (place : ℕ) (fault : MemberFault) where
   not_run p bundle inferred is = let e = ap (λ (answer : Answer). answer.status) is.shows in cc
 
   -- a command that reads no order has no such answer
-  no_member : (command : Command) (bytes : List ℕ) → AnswersInput command bytes member → OnOrderless (Some command) ⊥
-  no_member Check bytes is = not_checked bytes (spelled bytes) _ is
-  no_member Follow bytes is = tt
-  no_member Sim bytes is = tt
-  no_member Show bytes is = not_shown (reading bytes) is
-  no_member Upgrade bytes is = not_upgraded (reading bytes) is
-  no_member Infer bytes is = not_bundle AnswersLinks not_links (reading bytes) is
-  no_member Replay bytes is = not_bundle AnswersRun not_run (reading bytes) is
+  no_member : (limits : Limits) (command : Command) (bytes : List ℕ) → AnswersInput limits command bytes member → OnOrderless (Some command) ⊥
+  no_member limits Check bytes is = not_checked bytes (spelled bytes) _ is
+  no_member limits Follow bytes is = tt
+  no_member limits Sim bytes is = tt
+  no_member limits Show bytes is = not_shown (reading bytes) is
+  no_member limits Upgrade bytes is = not_upgraded (reading bytes) is
+  no_member limits Infer bytes is = not_bundle AnswersLinks not_links (reading bytes) is
+  no_member limits Replay bytes is = not_bundle AnswersRun not_run (reading bytes) is
 
 -- a command that reads no order refuses no member of one
-refuses_no_member : (command : Command) (bytes : List ℕ) (refusal : Refusal) → Refuses command bytes refusal → OnOrderless (Some command) (RefusesNoMember (status_of refusal))
-refuses_no_member command bytes (refusals.Program fault) is = filled command _ tt
-refuses_no_member command bytes (refusals.Bundle kind offset) is = filled command _ tt
-refuses_no_member command bytes (refusals.Diverges thread place) is = filled command _ tt
-refuses_no_member command bytes (refusals.NoLinkage fault) is = filled command _ tt
-refuses_no_member command bytes (refusals.NotEnabled place fault) is = no_member place fault command bytes is
-refuses_no_member command bytes refusals.NoMemory is = filled command _ tt
+refuses_no_member : (limits : Limits) (command : Command) (bytes : List ℕ) (refusal : Refusal) → Refuses limits command bytes refusal → OnOrderless (Some command) (RefusesNoMember (status_of refusal))
+refuses_no_member limits command bytes (refusals.Program fault) is = filled command _ tt
+refuses_no_member limits command bytes (refusals.Bundle kind offset) is = filled command _ tt
+refuses_no_member limits command bytes (refusals.Diverges thread place) is = filled command _ tt
+refuses_no_member limits command bytes (refusals.NoLinkage fault) is = filled command _ tt
+refuses_no_member limits command bytes (refusals.NotEnabled place fault) is = no_member place fault limits command bytes is
+refuses_no_member limits command bytes refusals.NoMemory is = filled command _ tt
 
 -- the same of the words that name the command, and of the status that tells of the refusal
-pub told_no_member : (named : Option Command) (command : Command) (bytes : List ℕ) (refusal : Refusal) (status : Status) → named ≡ Some command → status ≡ status_of refusal → Refuses command bytes refusal → OnOrderless named (RefusesNoMember status)
-told_no_member named command bytes refusal status is told refuses =
+pub told_no_member : (limits : Limits) (named : Option Command) (command : Command) (bytes : List ℕ) (refusal : Refusal) (status : Status) → named ≡ Some command → status ≡ status_of refusal → Refuses limits command bytes refusal → OnOrderless named (RefusesNoMember status)
+told_no_member limits named command bytes refusal status is told refuses =
     let P : Option Command → Type 0 = λ c. OnOrderless c (RefusesNoMember status) in
     let Q : Status → Type 0 = λ s. OnOrderless (Some command) (RefusesNoMember s) in
-    subst P (sym is) (subst Q (sym told) (refuses_no_member command bytes refusal refuses))
+    subst P (sym is) (subst Q (sym told) (refuses_no_member limits command bytes refusal refuses))

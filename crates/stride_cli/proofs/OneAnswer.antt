@@ -1,5 +1,5 @@
 -- Words and bytes have one answer at most.
-use Rattle.std.proofs.Common.{◌≡◌, ◌∙◌, ℕ, Bool, true, false, List, Option, Some, None, Result, Ok, Err, sym, ap, subst, length, nat_lt}
+use Rattle.std.proofs.Common.{◌≡◌, ◌∙◌, inl, inr, ℕ, Bool, true, false, List, Option, Some, None, Result, Ok, Err, sym, ap, subst, length, nat_lt}
 use Rattle.std.specs.Bool.{MatchBool}
 use Rattle.stride_base.specs.declared.limits.TheConstants.{INPUT_LIMIT}
 use Rattle.stride_isa.specs.Faults.{Fault}
@@ -10,18 +10,21 @@ use Rattle.sc_machine.specs.Schedule.{replayed}
 use Rattle.interleavings.specs.Driving.{driven, stranger}
 use Rattle.interleavings.specs.Following.{follow_all}
 use Rattle.interleavings.specs.Recording.{Recording}
+use Rattle.command_words.specs.Laws.{OneReading}
+use Rattle.command_words.specs.Words.{Word}
 use Rattle.log_format.specs.Bundles.{Bundled}
 use Rattle.log_format.specs.Reading.{reading, Refusal as FormatRefusal}
 use Rattle.assembler.specs.Programs.{LineFault, spelled}
 use Rattle.stride_cli.specs.declared.words.Command.{Command}
 use Rattle.stride_cli.specs.declared.words.Command.TheVariants.{Check, Follow, Infer, Replay, Show, Sim, Upgrade}
-use Rattle.stride_cli.specs.Answers.{Answer, AnswersBundle, AnswersBy, AnswersInference, AnswersInput, AnswersLinks, AnswersLogs, AnswersOrder, AnswersProgram, AnswersRecorded, AnswersRecording, AnswersRun, AnswersSimulated, AnswersSpelled, AnswersVerdict, done, judged, order_of, program_part, setting_of}
+use Rattle.stride_cli.specs.Answers.{Answer, AnswersBundle, AnswersBy, AnswersInference, AnswersInput, AnswersLinks, AnswersLogs, AnswersOrder, AnswersProgram, AnswersRecorded, AnswersRecording, AnswersRun, AnswersSettings, AnswersSimulated, AnswersSpelled, AnswersVerdict, IsAnswer, done, judged, order_of, program_part, setting_of}
 use Rattle.stride_cli.specs.Inferring.{Circular, Diverging, Inference, Inferred, Ordered, Unlinked}
 use Rattle.stride_cli.specs.Laws.{OneAnswer}
-use Rattle.stride_cli.specs.Settings.{fuel}
 use Rattle.stride_cli.specs.Reports.{replay_report, sim_report}
-use Rattle.stride_cli.specs.Words.{command_named}
+use Rattle.stride_cli.specs.Settings.{Limits, limits_of}
+use Rattle.stride_cli.specs.Words.{offline_named}
 use Rattle.stride_cli.proofs.Inferences.{Laws, one_inference}
+use Rattle.stride_cli.proofs.Readings.{of_line}
 
 one_text : OneVerdict → (text : List ℕ) (s : Result Listing LineFault) (accepted : Listing → Answer) (answer other : Answer) → AnswersSpelled text s accepted answer → AnswersSpelled text s accepted other → answer ≡ other
 one_text one text (Err fault) accepted answer other is same = is ∙ sym same
@@ -70,26 +73,26 @@ module _ (laws : Laws) (one : OneVerdict) (Shows : Listing → Bundled → Infer
   by_reading (Ok bundle) answer other is same = by_program bundle (spelled bundle.text) answer other is same
 
 -- one recording has one answer at most
-module _ (laws : Laws) (p : Listing) where
+module _ (laws : Laws) (limits : Limits) (p : Listing) where
   ordered_same : (one other : Inferred) → Ordered one ≡ Ordered other → one ≡ other
   ordered_same one other e = cc
 
-  by_recording : (recording : Recording) (answer other : Answer) → AnswersRecording p recording answer → AnswersRecording p recording other → answer ≡ other
+  by_recording : (recording : Recording) (answer other : Answer) → AnswersRecording limits p recording answer → AnswersRecording limits p recording other → answer ≡ other
   by_recording recording answer other is same =
-      let one : is.inferred ≡ same.inferred = ordered_same is.inferred same.inferred (one_inference laws p (follow_all p fuel recording.logs) (Ordered is.inferred) (Ordered same.inferred) is.ordered same.ordered) in
-      let machines : is.machine ≡ same.machine = some_same (sym is.runs ∙ ap (λ (i : Inferred). replayed p fuel i.schedule) one ∙ same.runs) in
+      let one : is.inferred ≡ same.inferred = ordered_same is.inferred same.inferred (one_inference laws p (follow_all p limits.fuel recording.logs) (Ordered is.inferred) (Ordered same.inferred) is.ordered same.ordered) in
+      let machines : is.machine ≡ same.machine = some_same (sym is.runs ∙ ap (λ (i : Inferred). replayed p limits.fuel i.schedule) one ∙ same.runs) in
       is.shows
       ∙ ap (λ (i : Inferred). done (sim_report recording.logs i.links i.schedule is.machine)) one
       ∙ ap (λ (m : Machine). done (sim_report recording.logs same.inferred.links same.inferred.schedule m)) machines
       ∙ sym same.shows
 
-  by_stranger : (found : Option ℕ) (recording : Recording) (answer other : Answer) → AnswersRecorded p found recording answer → AnswersRecorded p found recording other → answer ≡ other
+  by_stranger : (found : Option ℕ) (recording : Recording) (answer other : Answer) → AnswersRecorded limits p found recording answer → AnswersRecorded limits p found recording other → answer ≡ other
   by_stranger None recording answer other is same = by_recording recording answer other is same
   by_stranger (Some place) recording answer other is same = is ∙ sym same
 
-  by_order : (r : Result (List ℕ) LineFault) (answer other : Answer) → AnswersOrder r (AnswersSimulated p) answer → AnswersOrder r (AnswersSimulated p) other → answer ≡ other
+  by_order : (r : Result (List ℕ) LineFault) (answer other : Answer) → AnswersOrder r (AnswersSimulated limits p) answer → AnswersOrder r (AnswersSimulated limits p) other → answer ≡ other
   by_order (Err fault) answer other is same = is ∙ sym same
-  by_order (Ok order) answer other is same = by_stranger (stranger (length p.threads) order) (driven (setting_of p) order) answer other is same
+  by_order (Ok order) answer other is same = by_stranger (stranger (length p.threads) order) (driven (setting_of limits p) order) answer other is same
 
 -- one text has one answer at most, where one is answered at most to each valid program
 module _ (laws : Laws) (one : OneVerdict) (text : List ℕ) (Accepted : Listing → Answer → Type 0) (alone : (p : Listing) (answer other : Answer) → Accepted p answer → Accepted p other → answer ≡ other) where
@@ -103,25 +106,31 @@ module _ (laws : Laws) (one : OneVerdict) (text : List ℕ) (Accepted : Listing 
       let P : Option Fault → Type 0 = λ verdict. AnswersVerdict text verdict (Accepted p) answer in
       verdict_once p same.0 answer other (subst P (one p is.0 same.0 is.1.0 same.1.0) is.1.1) same.1.1
 
-one_input : Laws → OneVerdict → (command : Command) (bytes : List ℕ) (answer other : Answer) → AnswersInput command bytes answer → AnswersInput command bytes other → answer ≡ other
-one_input laws one Check bytes answer other is same = one_text one bytes (spelled bytes) _ answer other is same
-one_input laws one Follow bytes answer other is same = one_text one (program_part bytes) (spelled (program_part bytes)) _ answer other is same
-one_input laws one Sim bytes answer other is same =
-    program_once laws one (program_part bytes) (λ p. AnswersOrder (order_of bytes) (AnswersSimulated p)) (λ p answer other is same. by_order laws p (order_of bytes) answer other is same) (spelled (program_part bytes)) answer other is same
-one_input laws one Show bytes answer other is same = is ∙ sym same
-one_input laws one Upgrade bytes answer other is same = is ∙ sym same
-one_input laws one Infer bytes answer other is same =
+one_input : Laws → OneVerdict → (limits : Limits) (command : Command) (bytes : List ℕ) (answer other : Answer) → AnswersInput limits command bytes answer → AnswersInput limits command bytes other → answer ≡ other
+one_input laws one limits Check bytes answer other is same = one_text one bytes (spelled bytes) _ answer other is same
+one_input laws one limits Follow bytes answer other is same = one_text one (program_part bytes) (spelled (program_part bytes)) _ answer other is same
+one_input laws one limits Sim bytes answer other is same =
+    program_once laws one (program_part bytes) (λ p. AnswersOrder (order_of bytes) (AnswersSimulated limits p)) (λ p answer other is same. by_order laws limits p (order_of bytes) answer other is same) (spelled (program_part bytes)) answer other is same
+one_input laws one limits Show bytes answer other is same = is ∙ sym same
+one_input laws one limits Upgrade bytes answer other is same = is ∙ sym same
+one_input laws one limits Infer bytes answer other is same =
     by_reading laws one AnswersLinks (λ p bundle inferred answer other is same. is ∙ sym same) (reading bytes) answer other is same
-one_input laws one Replay bytes answer other is same = by_reading laws one AnswersRun one_run (reading bytes) answer other is same
+one_input laws one limits Replay bytes answer other is same = by_reading laws one AnswersRun one_run (reading bytes) answer other is same
 
-by_length : Laws → OneVerdict → (too_long : Bool) (command : Command) (bytes : List ℕ) (refusal answer other : Answer) → MatchBool too_long (answer ≡ refusal) (AnswersInput command bytes answer) → MatchBool too_long (other ≡ refusal) (AnswersInput command bytes other) → answer ≡ other
-by_length laws one true command bytes refusal answer other is same = is ∙ sym same
-by_length laws one false command bytes refusal answer other is same = one_input laws one command bytes answer other is same
+by_length : Laws → OneVerdict → (limits : Limits) (too_long : Bool) (command : Command) (bytes : List ℕ) (refusal answer other : Answer) → MatchBool too_long (answer ≡ refusal) (AnswersInput limits command bytes answer) → MatchBool too_long (other ≡ refusal) (AnswersInput limits command bytes other) → answer ≡ other
+by_length laws one limits true command bytes refusal answer other is same = is ∙ sym same
+by_length laws one limits false command bytes refusal answer other is same = one_input laws one limits command bytes answer other is same
 
-by_command : Laws → OneVerdict → (named : Option Command) (bytes : List ℕ) (answer other : Answer) → AnswersBy named bytes answer → AnswersBy named bytes other → answer ≡ other
-by_command laws one None bytes answer other is same = is ∙ sym same
-by_command laws one (Some command) bytes answer other is same =
-    by_length laws one (nat_lt INPUT_LIMIT (length bytes)) command bytes _ answer other is same
+by_command : Laws → OneVerdict → (limits : Limits) (named : Option Command) (bytes : List ℕ) (answer other : Answer) → AnswersBy limits named bytes answer → AnswersBy limits named bytes other → answer ≡ other
+by_command laws one limits None bytes answer other is same = is ∙ sym same
+by_command laws one limits (Some command) bytes answer other is same =
+    by_length laws one limits (nat_lt INPUT_LIMIT (length bytes)) command bytes _ answer other is same
 
-pub one_answer : Laws → OneVerdict → OneAnswer
-one_answer laws one = λ words bytes answer other is same. by_command laws one (command_named words) bytes answer other is same
+by_words : OneReading → Laws → OneVerdict → (words : List Word) (bytes : List ℕ) (answer other : Answer) → IsAnswer words bytes answer → IsAnswer words bytes other → answer ≡ other
+by_words reading laws one words bytes answer other (inl is) same =
+    by_command laws one (limits_of is.0) (offline_named is.0.command) bytes answer other is.2 (of_line reading (AnswersSettings bytes) words other same is.0 is.1)
+by_words reading laws one words bytes answer other (inr is) (inl same) = absurd (is.0 same.0 same.1)
+by_words reading laws one words bytes answer other (inr is) (inr same) = is.1 ∙ sym same.1
+
+pub one_answer : OneReading → Laws → OneVerdict → OneAnswer
+one_answer reading laws one = λ words bytes answer other is same. by_words reading laws one words bytes answer other is same

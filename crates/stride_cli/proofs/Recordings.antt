@@ -1,5 +1,5 @@
 -- A recording is linked and ordered.
-use Rattle.std.proofs.Common.{◌≡◌, ◌∙◌, ◌≤◌, List, Result, Ok, sym, ap, subst, arith}
+use Rattle.std.proofs.Common.{◌≡◌, ◌∙◌, ◌≤◌, List, Result, Ok, sym, ap, subst}
 use Rattle.stride_isa.specs.Listing.{Listing}
 use Rattle.stride_isa.specs.Validity.{IsValid}
 use Rattle.interleavings.specs.declared.event.LogEntry.{LogEntry}
@@ -14,7 +14,7 @@ use Rattle.stride_cli.specs.Again.{AreRecorded, IsRecorded}
 use Rattle.stride_cli.specs.Answers.{Answer, AnswersInference, setting_of}
 use Rattle.stride_cli.specs.Bundles.{Nothing, RefusesEvents}
 use Rattle.stride_cli.specs.Inferring.{Circular, Diverging, Inference, IsInferredOf, Ordered, Unlinked}
-use Rattle.stride_cli.specs.Settings.{fuel}
+use Rattle.stride_cli.specs.Settings.{Limits}
 use Rattle.stride_cli.proofs.Inferences.{ring_before}
 
 -- what the laws say of recordings
@@ -24,9 +24,6 @@ pub record Laws : Type 0 where
   pub linked : HistoriesAreLinked
   pub ordered : HistoriesAreOrdered
 
-some_fuel : 1 ≤ fuel
-some_fuel = omega arith
-
 -- threads that were followed, as what comes of following
 abbrev given : List Followed → Result (List Followed) Divergence
 given all = Ok all
@@ -35,10 +32,10 @@ given_same : (one other : List Followed) → given one ≡ given other → one �
 given_same one other e = cc
 
 -- the threads follow the logs of a recording
-pub logs_follow : (p : Listing) (logs : List (List LogEntry)) (recorded : AreRecorded p logs) → follow_all p fuel logs ≡ given recorded.followed.followed
-logs_follow p logs recorded = sym (ap (follow_all p fuel) recorded.logs_are) ∙ recorded.followed.follows
+pub logs_follow : (limits : Limits) (p : Listing) (logs : List (List LogEntry)) (recorded : AreRecorded limits p logs) → follow_all p limits.fuel logs ≡ given recorded.followed.followed
+logs_follow limits p logs recorded = sym (ap (follow_all p limits.fuel) recorded.logs_are) ∙ recorded.followed.follows
 
-module _ (laws : Laws) (p : Listing) (valid : IsValid p) (logs : List (List LogEntry)) (logged : AreRecorded p logs) where
+module _ (laws : Laws) (limits : Limits) (some : 1 ≤ limits.fuel) (p : Listing) (valid : IsValid p) (logs : List (List LogEntry)) (logged : AreRecorded limits p logs) where
   -- the events of the threads that follow the logs
   abbrev events : TraceLists
   events = traces_of p logged.followed.followed
@@ -46,8 +43,8 @@ module _ (laws : Laws) (p : Listing) (valid : IsValid p) (logs : List (List LogE
   -- they are those of the recording's history
   are_events : AreEventsOf logged.steps events
   are_events =
-      let range = laws.range p fuel logged.recording.logs logged.followed.followed valid some_fuel logged.followed.follows in
-      laws.events (setting_of p) logged.recording logged.steps logged.history logged.followed range
+      let range = laws.range p limits.fuel logged.recording.logs logged.followed.followed valid some logged.followed.follows in
+      laws.events (setting_of limits p) logged.recording logged.steps logged.history logged.followed range
 
   -- nothing that they come to is a refusal
   pub unrefused : (inference : Inference) (answer : Answer) → IsInferredOf events inference → AnswersInference Nothing inference answer → ⊥
@@ -58,10 +55,10 @@ module _ (laws : Laws) (p : Listing) (valid : IsValid p) (logs : List (List LogE
   unrefused (Ordered inferred) answer is refused = refused
 
 -- so the events of threads that were run again by the logs of a recording are not refused
-pub not_refused : Laws → (p : Listing) (logs : List (List LogEntry)) (traces : TraceLists) → IsRecorded p logs traces → (fault : LinkageFault) → RefusesEvents traces (refusals.NoLinkage fault) → ⊥
-not_refused laws p logs traces recorded fault is =
+pub not_refused : Laws → (limits : Limits) (p : Listing) (logs : List (List LogEntry)) (traces : TraceLists) → IsRecorded limits p logs traces → (fault : LinkageFault) → RefusesEvents traces (refusals.NoLinkage fault) → ⊥
+not_refused laws limits p logs traces recorded fault is =
     let again = recorded.again in
     let logged = recorded.logged in
-    let same : again.all ≡ logged.followed.followed = given_same again.all logged.followed.followed (sym again.follows ∙ logs_follow p logs logged) in
+    let same : again.all ≡ logged.followed.followed = given_same again.all logged.followed.followed (sym again.follows ∙ logs_follow limits p logs logged) in
     let P : TraceLists → Type 0 = λ traces. IsInferredOf traces is.0 in
-    unrefused laws p again.valid logs logged is.0 _ (subst P (again.traces_are ∙ ap (traces_of p) same) is.1.0) is.1.1
+    unrefused laws limits again.some p again.valid logs logged is.0 _ (subst P (again.traces_are ∙ ap (traces_of p) same) is.1.0) is.1.1

@@ -1,19 +1,18 @@
 -- The answer of `replay` to a bundle whose events have an order, and that each turn of this order can be taken.
-use Rattle.std.proofs.Common.{◌≡◌, ◌∙◌, ◌≤◌, ◌++◌, ℕ, List, Some, sym, ap, subst, arith}
+use Rattle.std.proofs.Common.{◌≡◌, ◌∙◌, ◌++◌, ℕ, List, sym, ap, subst}
 use Rattle.stride_isa.specs.Listing.{Listing}
-use Rattle.sc_machine.specs.Machine.{Machine}
 use Rattle.sc_machine.specs.Schedule.{replayed}
 use Rattle.interleavings.specs.declared.event.LogEntry.{LogEntry}
 use Rattle.interleavings.specs.Following.{follow_all}
 use Rattle.interleavings.specs.TraceLists.{TraceLists}
 use Rattle.event_order.specs.Laws.{ExtensionsAreRuns, RunsAsFollowed}
+use Rattle.log_format.specs.Reading.{reading}
 use Rattle.replayer.specs.Replays.{IsRefusedAt, IsRunOf as Plays, Results}
-use Rattle.stride_cli.specs.declared.words.Command.TheVariants.{Replay}
 use Rattle.stride_cli.specs.Again.{IsRunAgain}
-use Rattle.stride_cli.specs.Answers.{AnswersInput, AnswersRun, done}
+use Rattle.stride_cli.specs.Answers.{AnswersBundle, AnswersRun, done}
 use Rattle.stride_cli.specs.Bundles.{IsRerun}
 use Rattle.stride_cli.specs.Inferring.{Inferred, IsInferredOf, Ordered}
-use Rattle.stride_cli.specs.Reports.{replay_report, schedule_section}
+use Rattle.stride_cli.specs.Reports.{schedule_section}
 use Rattle.stride_cli.specs.Runs.{run_section}
 use Rattle.stride_cli.proofs.Bundles.{to_events}
 use Rattle.stride_cli.proofs.LeastRuns.{least_runs}
@@ -44,7 +43,7 @@ never_refused law p fuel logs traces inferred lent place again is same at =
     absurd (cc)
 
 -- its report is the answer
-pub replay_done : (bytes : List ℕ) (p : Listing) (fuel : ℕ) (traces : TraceLists) (inferred : Inferred) (results : Results) (report : List ℕ) → IsRerun bytes p fuel traces → IsInferredOf traces (Ordered inferred) → Plays p fuel inferred.schedule results → report ≡ schedule_section inferred.schedule ++ run_section results → AnswersInput Replay bytes (done report)
+pub replay_done : (bytes : List ℕ) (p : Listing) (fuel : ℕ) (traces : TraceLists) (inferred : Inferred) (results : Results) (report : List ℕ) → IsRerun bytes p fuel traces → IsInferredOf traces (Ordered inferred) → Plays p fuel inferred.schedule results → report ≡ schedule_section inferred.schedule ++ run_section results → AnswersBundle AnswersRun (reading bytes) (done report)
 replay_done bytes p fuel traces inferred results report rerun is plays put =
     let runs = ap (λ (n : ℕ). replayed p n inferred.schedule) (sym rerun.fuel_is) ∙ plays.runs in
     let shown = put ∙ ap (λ (r : Results). schedule_section inferred.schedule ++ run_section r) plays.shows in

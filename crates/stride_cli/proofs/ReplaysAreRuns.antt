@@ -7,6 +7,7 @@ use Rattle.stride_isa.specs.Listing.{Listing}
 use Rattle.stride_isa.specs.Validity.{IsValid}
 use Rattle.interleavings.specs.Following.{Divergence, Followed, follow_all}
 use Rattle.event_order.specs.Laws.{ExtensionsAreRuns}
+use Rattle.command_words.specs.Laws.{OneReading}
 use Rattle.log_format.specs.Bundles.{Bundled}
 use Rattle.log_format.specs.Laws.{FuelIsInRange}
 use Rattle.log_format.specs.Reading.{reading, Refusal as FormatRefusal}
@@ -17,11 +18,14 @@ use Rattle.stride_cli.specs.declared.words.Command.{Command}
 use Rattle.stride_cli.specs.declared.words.Command.TheVariants.{Replay}
 use Rattle.linkage.specs.declared.link_error.LinkError.{LinkError}
 use Rattle.linkage.specs.declared.link_error.LinkError.TheVariants as links
-use Rattle.stride_cli.specs.Answers.{Answer, AnswersBundle, AnswersBy, AnswersInference, AnswersInput, AnswersLogs, AnswersProgram, AnswersRun, AnswersVerdict, circular, done, refused, unlinked}
+use Rattle.stride_cli.specs.Answers.{Answer, AnswersBundle, AnswersBy, AnswersInference, AnswersInput, AnswersLogs, AnswersProgram, AnswersRun, AnswersSettings, AnswersVerdict, circular, done, refused, unlinked}
 use Rattle.stride_cli.specs.Inferring.{Circular, Diverging, Inference, Inferred, IsInferred, IsInferredBy, Ordered, Unlinked}
 use Rattle.stride_cli.specs.Laws.{IsReplayed, ReplaysAreRuns}
 use Rattle.stride_cli.specs.Reports.{replay_report}
+use Rattle.stride_cli.specs.Settings.{Limits, limits_of}
+use Rattle.stride_cli.specs.Words.{offline_named}
 use Rattle.stride_cli.proofs.LeastRuns.{least_runs}
+use Rattle.stride_cli.proofs.Readings.{of_line}
 
 -- a refusal is not done
 not_done : (status : Status) (report : List ℕ) → (status ≡ Done → ⊥) → done report ≡ refused status → ⊥
@@ -86,11 +90,15 @@ by_reading : Laws → (bytes report : List ℕ) (r : Result Bundled FormatRefusa
 by_reading laws bytes report (Err refusal) reads is = absurd (not_done (Bundle refusal.kind refusal.offset) report (λ e. cc) is)
 by_reading laws bytes report (Ok bundle) reads is = by_program laws bytes report bundle reads (spelled bundle.text) refl is
 
-by_length : Laws → (too_long : Bool) (bytes report : List ℕ) → MatchBool too_long (done report ≡ refused TooLong) (AnswersInput Replay bytes (done report)) → IsReplayed bytes report
-by_length laws true bytes report is = absurd (not_done TooLong report (λ e. cc) is)
-by_length laws false bytes report is = by_reading laws bytes report (reading bytes) refl is
+by_length : Laws → (too_long : Bool) (limits : Limits) (bytes report : List ℕ) → MatchBool too_long (done report ≡ refused TooLong) (AnswersInput limits Replay bytes (done report)) → IsReplayed bytes report
+by_length laws true limits bytes report is = absurd (not_done TooLong report (λ e. cc) is)
+by_length laws false limits bytes report is = by_reading laws bytes report (reading bytes) refl is
 
-pub replays_are_runs : Laws → ReplaysAreRuns
-replays_are_runs laws = λ words bytes report named is.
-    let P : Option Command → Type 0 = λ command. AnswersBy command bytes (done report) in
-    by_length laws (nat_lt INPUT_LIMIT (length bytes)) bytes report (subst P named is)
+by_command : Laws → (limits : Limits) (command : Option Command) (bytes report : List ℕ) → command ≡ Some Replay → AnswersBy limits command bytes (done report) → IsReplayed bytes report
+by_command laws limits command bytes report named is =
+    let P : Option Command → Type 0 = λ c. AnswersBy limits c bytes (done report) in
+    by_length laws (nat_lt INPUT_LIMIT (length bytes)) limits bytes report (subst P named is)
+
+pub replays_are_runs : OneReading → Laws → ReplaysAreRuns
+replays_are_runs read laws = λ words bytes report is settings line named.
+    by_command laws (limits_of settings) (offline_named settings.command) bytes report (ap offline_named named) (of_line read (AnswersSettings bytes) words (done report) is settings line)

@@ -10,34 +10,32 @@ use Rattle.interleavings.specs.Driving.{driven, stranger}
 use Rattle.interleavings.specs.Following.{Divergence, Followed, follow_all}
 use Rattle.interleavings.specs.TraceLists.{TraceLists}
 use Rattle.assembler.specs.Programs.{LineFault, spelled}
-use Rattle.replayer.specs.Replays.{IsRunOf as Plays, Results, results_of}
+use Rattle.replayer.specs.Replays.{Results, results_of}
 use Rattle.stride_cli.specs.declared.refusal.Refusal.{Refusal}
 use Rattle.stride_cli.specs.declared.refusal.Refusal.TheVariants as refusals
 use Rattle.stride_cli.specs.declared.status.MemberFault.TheVariants.{NoThread}
 use Rattle.stride_cli.specs.declared.status.Status.TheVariants as statuses
 use Rattle.stride_cli.specs.declared.words.Command.TheVariants.{Sim}
-use Rattle.stride_cli.specs.Again.{IsRecorded}
+use Rattle.stride_cli.specs.Again.{IsRunAgain}
 use Rattle.stride_cli.specs.Answers.{Answer, AnswersInput, AnswersOrder, AnswersProgram, AnswersRecorded, AnswersSimulated, done, order_of, program_part, refused, refused_text, setting_of}
 use Rattle.stride_cli.specs.Gives.{Refuses}
 use Rattle.stride_cli.specs.Inferring.{Inferred, IsInferredBy, IsInferredOf, Ordered}
 use Rattle.stride_cli.specs.Inputs.{Accepts, IsInput}
 use Rattle.stride_cli.specs.Looks.{followed_looks, printing_looks, simulated_looks}
+use Rattle.stride_cli.specs.Playing.{IsPlayed, TellsLogs}
 use Rattle.stride_cli.specs.Refusals.{of_drive}
-use Rattle.stride_cli.specs.Reports.{links_section, logs_section, schedule_section, sim_report}
+use Rattle.stride_cli.specs.Reports.{links_section, logs_section, schedule_section}
 use Rattle.stride_cli.specs.Runs.{run_section}
-use Rattle.stride_cli.specs.Settings.{fuel}
+use Rattle.stride_cli.specs.Settings.{Limits}
 use Rattle.stride_cli.proofs.Bundles.{only_programs, unaccepted}
 
-regroup : (a b c d : List ℕ) → ((a ++ b) ++ c) ++ d ≡ a ++ (b ++ (c ++ d))
-regroup a b c d = append_assoc (a ++ b) c d ∙ append_assoc a b (c ++ d)
-
-module _ (bytes : List ℕ) where
+module _ (limits : Limits) (bytes : List ℕ) where
   -- what is answered to an accepted program of an input
   abbrev Accepted : Listing → Answer → Type 0
-  Accepted p = AnswersOrder (order_of bytes) (AnswersSimulated p)
+  Accepted p = AnswersOrder (order_of bytes) (AnswersSimulated limits p)
 
   -- the refusal of the program
-  program_refused : (refusal : Refusal) → Accepts (program_part bytes) (Err refusal) → Refuses Sim bytes refusal
+  program_refused : (refusal : Refusal) → Accepts (program_part bytes) (Err refusal) → Refuses limits Sim bytes refusal
   program_refused (refusals.Program fault) is =
       unaccepted (program_part bytes) (spelled (program_part bytes)) Accepted (statuses.Program fault) (λ e. cc) (is (λ p. done []))
   program_refused (refusals.Bundle kind offset) is =
@@ -51,57 +49,72 @@ module _ (bytes : List ℕ) where
   program_refused refusals.NoMemory is = tt
 
   -- the same of a text that is lent
-  pub lent_refused : (lent : List ℕ) (refusal : Refusal) → lent ≡ program_part bytes → Accepts lent (Err refusal) → Refuses Sim bytes refusal
+  pub lent_refused : (lent : List ℕ) (refusal : Refusal) → lent ≡ program_part bytes → Accepts lent (Err refusal) → Refuses limits Sim bytes refusal
   lent_refused lent refusal same is =
       let P : List ℕ → Type 0 = λ text. Accepts text (Err refusal) in
       program_refused refusal (subst P same is)
 
   -- what is answered to the order of an accepted program
-  to_order : (p : Listing) (answer : Answer) → spelled (program_part bytes) ≡ Ok p → IsValid p → Accepted p answer → AnswersInput Sim bytes answer
+  to_order : (p : Listing) (answer : Answer) → spelled (program_part bytes) ≡ Ok p → IsValid p → Accepted p answer → AnswersInput limits Sim bytes answer
   to_order p answer spells valid is =
       let Q : Result Listing LineFault → Type 0 = λ s. AnswersProgram (program_part bytes) s Accepted answer in
       subst Q (sym spells) (None, (valid, is))
 
   -- the refusal of the order
-  pub order_refused : (p : Listing) (fault : LineFault) → spelled (program_part bytes) ≡ Ok p → IsValid p → order_of bytes ≡ Err fault → AnswersInput Sim bytes (refused_text fault)
+  pub order_refused : (p : Listing) (fault : LineFault) → spelled (program_part bytes) ≡ Ok p → IsValid p → order_of bytes ≡ Err fault → AnswersInput limits Sim bytes (refused_text fault)
   order_refused p fault spells valid is =
-      let Q : Result (List ℕ) LineFault → Type 0 = λ r. AnswersOrder r (AnswersSimulated p) (refused_text fault) in
+      let Q : Result (List ℕ) LineFault → Type 0 = λ r. AnswersOrder r (AnswersSimulated limits p) (refused_text fault) in
       to_order p (refused_text fault) spells valid (subst Q (sym is) refl)
 
   -- what is answered to an order that is spelled
-  to_simulated : (p : Listing) (order : List ℕ) (answer : Answer) → IsInput bytes p order → AnswersSimulated p order answer → AnswersInput Sim bytes answer
+  to_simulated : (p : Listing) (order : List ℕ) (answer : Answer) → IsInput bytes p order → AnswersSimulated limits p order answer → AnswersInput limits Sim bytes answer
   to_simulated p order answer input is =
-      let Q : Result (List ℕ) LineFault → Type 0 = λ r. AnswersOrder r (AnswersSimulated p) answer in
+      let Q : Result (List ℕ) LineFault → Type 0 = λ r. AnswersOrder r (AnswersSimulated limits p) answer in
       to_order p answer input.program input.valid (subst Q (sym input.ordered) is)
 
-  drive_refused_by : (p : Listing) (order : List ℕ) (error : DriveError) → IsInput bytes p order → IsStranger (length p.threads) order error → Refuses Sim bytes (of_drive error)
+  drive_refused_by : (p : Listing) (order : List ℕ) (error : DriveError) → IsInput bytes p order → IsStranger (length p.threads) order error → Refuses limits Sim bytes (of_drive error)
   drive_refused_by p order (drives.NoSuchThread place) input is =
       let answer : Answer = refused (statuses.NotEnabled place NoThread) in
-      let Q : Option ℕ → Type 0 = λ found. AnswersRecorded p found (driven (setting_of p) order) answer in
+      let Q : Option ℕ → Type 0 = λ found. AnswersRecorded limits p found (driven (setting_of limits p) order) answer in
       to_simulated p order answer input (subst Q (sym is) refl)
   drive_refused_by p order drives.NoMemory input is = tt
 
   -- the refusal of a member that names no thread, of an order that is lent
-  pub drive_refused : (p : Listing) (order lent : List ℕ) (error : DriveError) → lent ≡ order → IsInput bytes p order → IsStranger (length p.threads) lent error → Refuses Sim bytes (of_drive error)
+  pub drive_refused : (p : Listing) (order lent : List ℕ) (error : DriveError) → lent ≡ order → IsInput bytes p order → IsStranger (length p.threads) lent error → Refuses limits Sim bytes (of_drive error)
   drive_refused p order lent error same input is = drive_refused_by p lent error (subst (IsInput bytes p) (sym same) input) is
 
   -- the report of a recording is the answer
-  pub sim_done : (p : Listing) (order lent : List ℕ) (logs : List (List LogEntry)) (traces : TraceLists) (inferred : Inferred) (results : Results) (report : List ℕ) → lent ≡ order → IsInput bytes p order → stranger (length p.threads) lent ≡ None → logs ≡ (driven (setting_of p) lent).logs → IsRecorded p logs traces → IsInferredOf traces (Ordered inferred) → Plays p fuel inferred.schedule results
-      → report ≡ ((logs_section logs ++ links_section inferred.links) ++ schedule_section inferred.schedule) ++ run_section results → AnswersInput Sim bytes (done report)
-  sim_done p order lent logs traces inferred results report same input known logged recorded is plays put =
-      let recording = driven (setting_of p) lent in
-      let P : TraceLists → Type 0 = λ traces. IsInferredOf traces (Ordered inferred) in
-      let Q : Result (List Followed) Divergence → Type 0 = λ r. IsInferredBy p r (Ordered inferred) in
-      let R : Option ℕ → Type 0 = λ found. AnswersRecorded p found recording (done report) in
-      let ordered = subst Q (sym recorded.again.follows ∙ ap (follow_all p fuel) logged) (subst P recorded.again.traces_are is) in
-      let shown = (put ∙ ap (λ all. ((logs_section all ++ links_section inferred.links) ++ schedule_section inferred.schedule) ++ run_section results) logged) ∙ ap (λ (r : Results). ((logs_section recording.logs ++ links_section inferred.links) ++ schedule_section inferred.schedule) ++ run_section r) plays.shows in
-      let shows : report ≡ sim_report recording.logs inferred.links inferred.schedule plays.machine = shown ∙ regroup (logs_section recording.logs) (links_section inferred.links) (schedule_section inferred.schedule) (run_section (results_of p plays.machine)) in
+  pub sim_done : (p : Listing) (order lent : List ℕ) (logs : List (List LogEntry)) (report : List ℕ) → lent ≡ order → IsInput bytes p order → stranger (length p.threads) lent ≡ None → logs ≡ (driven (setting_of limits p) lent).logs → TellsLogs p limits.fuel logs report → AnswersInput limits Sim bytes (done report)
+  sim_done p order lent logs report same input known logged told =
+      let recording = driven (setting_of limits p) lent in
+      let P : List (List LogEntry) → Type 0 = λ logs. TellsLogs p limits.fuel logs report in
+      let R : Option ℕ → Type 0 = λ found. AnswersRecorded limits p found recording (done report) in
+      let tells = subst P logged told in
       to_simulated p lent (done report) (subst (IsInput bytes p) (sym same) input)
-      (subst R (sym known) (record { inferred = inferred; ordered = ordered; machine = plays.machine; runs = plays.runs; shows = ap done shows }))
+      (subst R (sym known) (record { inferred = tells.inferred; ordered = tells.ordered; machine = tells.machine; runs = tells.runs; shows = ap done tells.shows }))
 
   -- the share of a recording
-  pub sim_looks : (p : Listing) (order lent : List ℕ) (logs : List (List LogEntry)) (traces : TraceLists) → lent ≡ order → IsInput bytes p order → logs ≡ (driven (setting_of p) lent).logs → IsRecorded p logs traces → simulated_looks (order_of bytes) (spelled (program_part bytes)) ≡ printing_looks traces
-  sim_looks p order lent logs traces same input logged recorded =
-      ap (λ (r : Result (List ℕ) LineFault). simulated_looks r (spelled (program_part bytes))) (input.ordered ∙ ap Ok (sym same))
-      ∙ (ap (simulated_looks (Ok lent)) input.program
-      ∙ (ap (followed_looks printing_looks p) (ap (follow_all p fuel) (sym logged) ∙ recorded.again.follows) ∙ ap printing_looks (sym recorded.again.traces_are)))
+  pub sim_looks : (p : Listing) (order lent : List ℕ) (logs : List (List LogEntry)) → lent ≡ order → IsInput bytes p order → logs ≡ (driven (setting_of limits p) lent).logs → simulated_looks limits (order_of bytes) (spelled (program_part bytes)) ≡ followed_looks printing_looks p (follow_all p limits.fuel logs)
+  sim_looks p order lent logs same input logged =
+      ap (λ (r : Result (List ℕ) LineFault). simulated_looks limits r (spelled (program_part bytes))) (input.ordered ∙ ap Ok (sym same))
+      ∙ (ap (simulated_looks limits (Ok lent)) input.program ∙ ap (λ (all : List (List LogEntry)). followed_looks printing_looks p (follow_all p limits.fuel all)) (sym logged))
+
+-- the report tells of logs that were followed, linked, ordered and run
+pub tells_logs : (p : Listing) (fuel : ℕ) (logs : List (List LogEntry)) (traces : TraceLists) (inferred : Inferred) (results : Results) (report : List ℕ) → IsRunAgain p fuel logs traces → IsPlayed p fuel traces inferred results
+    → report ≡ (logs_section logs ++ links_section inferred.links) ++ (schedule_section inferred.schedule ++ run_section results) → TellsLogs p fuel logs report
+tells_logs p fuel logs traces inferred results report again played put =
+    let P : TraceLists → Type 0 = λ traces. IsInferredOf traces (Ordered inferred) in
+    let Q : Result (List Followed) Divergence → Type 0 = λ r. IsInferredBy p r (Ordered inferred) in
+    let plays = played.run in
+    let shown = put ∙ ap (λ (r : Results). (logs_section logs ++ links_section inferred.links) ++ (schedule_section inferred.schedule ++ run_section r)) plays.shows in
+    record {
+      inferred = inferred;
+      ordered = subst Q (sym again.follows) (subst P again.traces_are played.ordered);
+      machine = plays.machine;
+      runs = plays.runs;
+      shows = shown ∙ append_assoc (logs_section logs) (links_section inferred.links) (schedule_section inferred.schedule ++ run_section (results_of p plays.machine));
+    }
+
+-- the share of logs that were followed
+pub again_looks : (p : Listing) (fuel : ℕ) (logs : List (List LogEntry)) (traces : TraceLists) → IsRunAgain p fuel logs traces → followed_looks printing_looks p (follow_all p fuel logs) ≡ printing_looks traces
+again_looks p fuel logs traces again = ap (followed_looks printing_looks p) again.follows ∙ ap printing_looks (sym again.traces_are)

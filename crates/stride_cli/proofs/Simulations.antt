@@ -1,5 +1,5 @@
 -- An order that names threads of a valid program alone has an answer of `sim`, which is the run of its recording.
-use Rattle.std.proofs.Common.{◌≡◌, ◌∙◌, ℕ, ◌≤◌, List, Option, Some, None, Result, Ok, Err, refl, sym, ap, subst, arith, length}
+use Rattle.std.proofs.Common.{◌≡◌, ℕ, ◌≤◌, List, Option, Some, None, Result, Ok, Err, refl, sym, subst, length}
 use Rattle.stride_isa.specs.Faults.{Fault, IsVerdict}
 use Rattle.stride_isa.specs.Laws.{HasVerdict}
 use Rattle.stride_isa.specs.Listing.{Listing}
@@ -18,7 +18,7 @@ use Rattle.stride_cli.specs.declared.status.Status.TheVariants.{NotEnabled}
 use Rattle.stride_cli.specs.declared.words.Command.TheVariants.{Sim}
 use Rattle.stride_cli.specs.Inferring.{Inferred, IsInferredBy, IsInferredOf, Ordered}
 use Rattle.stride_cli.specs.Reports.{sim_report}
-use Rattle.stride_cli.specs.Settings.{fuel}
+use Rattle.stride_cli.specs.Settings.{Limits}
 use Rattle.stride_cli.proofs.LeastRuns.{least_runs}
 
 -- what the laws say of recordings, of histories and of the direct order
@@ -30,13 +30,10 @@ pub record Laws : Type 0 where
   pub orders : HistoriesHaveOrders
   pub runs : ExtensionsAreRuns
 
-some_fuel : 1 ≤ fuel
-some_fuel = omega arith
-
-module _ (laws : Laws) (p : Listing) (valid : IsValid p) (order : List ℕ) (known : stranger (length p.threads) order ≡ None) where
+module _ (laws : Laws) (limits : Limits) (some : 1 ≤ limits.fuel) (p : Listing) (valid : IsValid p) (order : List ℕ) (known : stranger (length p.threads) order ≡ None) where
   -- how the program is recorded
   abbrev setting : Setting
-  setting = setting_of p
+  setting = setting_of limits p
 
   -- its recording
   abbrev recording : Recording
@@ -47,17 +44,17 @@ module _ (laws : Laws) (p : Listing) (valid : IsValid p) (order : List ℕ) (kno
   followed = (laws.followed setting order known).followed
 
   -- the run by the least schedule of their events
-  recorded_run : (inferred : Inferred) → IsInferredOf (traces_of p followed) (Ordered inferred) → RunsAsFollowed p fuel followed inferred.schedule
-  recorded_run inferred is = least_runs laws.runs p valid fuel some_fuel recording.logs followed (laws.followed setting order known).follows inferred is
+  recorded_run : (inferred : Inferred) → IsInferredOf (traces_of p followed) (Ordered inferred) → RunsAsFollowed p limits.fuel followed inferred.schedule
+  recorded_run inferred is = least_runs laws.runs p valid limits.fuel some recording.logs followed (laws.followed setting order known).follows inferred is
 
   -- the events are those of a history
   are_events : AreEventsOf (whole_run setting order).steps (traces_of p followed)
   are_events =
       let again = laws.followed setting order known in
       laws.events setting recording (whole_run setting order).steps (laws.history setting order known) again
-      (laws.range p fuel recording.logs again.followed valid some_fuel again.follows)
+      (laws.range p limits.fuel recording.logs again.followed valid some again.follows)
 
-  recording_answer : (answer : Answer) × AnswersRecording p recording answer
+  recording_answer : (answer : Answer) × AnswersRecording limits p recording answer
   recording_answer =
       let found = laws.orders (whole_run setting order).steps (traces_of p followed) are_events in
       let inferred : Inferred = record { links = found.0; schedule = found.2.0 } in
@@ -73,23 +70,23 @@ module _ (laws : Laws) (p : Listing) (valid : IsValid p) (order : List ℕ) (kno
         },
       )
 
-module _ (laws : Laws) (p : Listing) (valid : IsValid p) where
-  by_stranger : (order : List ℕ) (found : Option ℕ) → stranger (length p.threads) order ≡ found → (answer : Answer) × AnswersRecorded p found (driven (setting_of p) order) answer
-  by_stranger order None is = recording_answer laws p valid order is
+module _ (laws : Laws) (limits : Limits) (some : 1 ≤ limits.fuel) (p : Listing) (valid : IsValid p) where
+  by_stranger : (order : List ℕ) (found : Option ℕ) → stranger (length p.threads) order ≡ found → (answer : Answer) × AnswersRecorded limits p found (driven (setting_of limits p) order) answer
+  by_stranger order None is = recording_answer laws limits some p valid order is
   by_stranger order (Some place) is = (refused (NotEnabled place NoThread), refl)
 
-  by_order : (r : Result (List ℕ) LineFault) → (answer : Answer) × AnswersOrder r (AnswersSimulated p) answer
+  by_order : (r : Result (List ℕ) LineFault) → (answer : Answer) × AnswersOrder r (AnswersSimulated limits p) answer
   by_order (Err fault) = (refused_text fault, refl)
   by_order (Ok order) = by_stranger order (stranger (length p.threads) order) refl
 
-module _ (laws : Laws) (verdict : HasVerdict) (bytes : List ℕ) where
+module _ (laws : Laws) (limits : Limits) (some : 1 ≤ limits.fuel) (verdict : HasVerdict) (bytes : List ℕ) where
   -- what is answered to an accepted program of an input
   abbrev Accepted : Listing → Answer → Type 0
-  Accepted p = AnswersOrder (order_of bytes) (AnswersSimulated p)
+  Accepted p = AnswersOrder (order_of bytes) (AnswersSimulated limits p)
 
   by_verdict : (text : List ℕ) (p : Listing) (found : Option Fault) → IsVerdict p found → (answer : Answer) × AnswersVerdict text found (Accepted p) answer
   by_verdict text p (Some fault) judged = (refused_code text fault, refl)
-  by_verdict text p None judged = by_order laws p judged (order_of bytes)
+  by_verdict text p None judged = by_order laws limits some p judged (order_of bytes)
 
   by_program : (text : List ℕ) (s : Result Listing LineFault) → (answer : Answer) × AnswersProgram text s Accepted answer
   by_program text (Err fault) = (refused_text fault, refl)
@@ -99,5 +96,5 @@ module _ (laws : Laws) (verdict : HasVerdict) (bytes : List ℕ) where
       (answered.0, (judgement.0, (judgement.1, answered.1)))
 
   -- an input has an answer of `sim`
-  pub simulation : (answer : Answer) × AnswersInput Sim bytes answer
+  pub simulation : (answer : Answer) × AnswersInput limits Sim bytes answer
   simulation = by_program (program_part bytes) (spelled (program_part bytes))

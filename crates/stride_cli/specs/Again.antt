@@ -11,7 +11,7 @@ use Rattle.interleavings.specs.TraceLists.{IsTraces, TraceLists}
 use Rattle.event_order.specs.Laws.{traces_of}
 use Rattle.stride_cli.specs.Answers.{setting_of}
 use Rattle.stride_cli.specs.Inferring.{SchedulesEvents}
-use Rattle.stride_cli.specs.Settings.{fuel}
+use Rattle.stride_cli.specs.Settings.{Limits}
 
 -- the threads of a valid program with some fuel were run again by these logs
 pub record IsRunAgain (p : Listing) (fuel : ℕ) (logs : List (List LogEntry)) (traces : TraceLists) : Type 0 where
@@ -34,24 +34,28 @@ pub record HasSchedule (p : Listing) (fuel : ℕ) (schedule : List ℕ) : Type 0
   pub scheduled : SchedulesEvents traces schedule
 
 -- the logs are those of a recording of the program
-pub record IsLogged (p : Listing) (logs : List (List LogEntry)) : Type 0 where
+pub record IsLogged (limits : Limits) (p : Listing) (logs : List (List LogEntry)) : Type 0 where
   pub recording : Recording
   pub logs_are : recording.logs ≡ logs
-  pub recorded : IsRecording (setting_of p) recording
+  pub recorded : IsRecording (setting_of limits p) recording
 
 -- the logs are those of what some steps left of the program, by the history of these steps
-pub record AreRecorded (p : Listing) (logs : List (List LogEntry)) : Type 0 where
+pub record AreRecorded (limits : Limits) (p : Listing) (logs : List (List LogEntry)) : Type 0 where
   pub recording : Recording
   pub steps : List Step
   pub logs_are : recording.logs ≡ logs
-  pub history : IsHistoryOf (setting_of p) recording steps
-  pub followed : IsFollowed (setting_of p) recording steps
+  pub history : IsHistoryOf (setting_of limits p) recording steps
+  pub followed : IsFollowed (setting_of limits p) recording steps
 
 -- the threads were run again by such logs
-pub record IsRecorded (p : Listing) (logs : List (List LogEntry)) (traces : TraceLists) : Type 0 where
-  pub logged : AreRecorded p logs
-  pub again : IsRunAgain p fuel logs traces
+pub record IsRecorded (limits : Limits) (p : Listing) (logs : List (List LogEntry)) (traces : TraceLists) : Type 0 where
+  pub logged : AreRecorded limits p logs
+  pub again : IsRunAgain p limits.fuel logs traces
 
--- the threads were run again by the logs of some recording
+-- the threads were run again by the logs of some recording with these limits
+abbrev pub WereRecorded : Limits → Listing → TraceLists → Type 0
+WereRecorded limits p traces = (logs : List (List LogEntry)) × IsRecorded limits p logs traces
+
+-- the same with some limits
 abbrev pub HasRecorded : Listing → TraceLists → Type 0
-HasRecorded p traces = (logs : List (List LogEntry)) × IsRecorded p logs traces
+HasRecorded p traces = (limits : Limits) × WereRecorded limits p traces

@@ -1,5 +1,5 @@
 -- What the program answers to words and bytes: the exit status with its details, and the report.
-use Rattle.std.specs.Prelude.{◌≡◌, ℕ, List, [], length, take, drop, slice_index, nat_lt, if◌then◌else◌, Option, Some, None, Result, Ok, Err, unwrap_or}
+use Rattle.std.specs.Prelude.{◌≡◌, ◌⊎◌, ℕ, List, [], length, take, drop, slice_index, nat_lt, if◌then◌else◌, Option, Some, None, Result, Ok, Err, unwrap_or}
 use Rattle.std.specs.Bool.{MatchBool}
 use Rattle.stride_isa.specs.Faults.{Fault, IsVerdict}
 use Rattle.stride_isa.specs.Listing.{Listing}
@@ -18,6 +18,8 @@ use Rattle.assembler.specs.CodeLines.{code_line}
 use Rattle.assembler.specs.Orders.{order_spelled}
 use Rattle.assembler.specs.Programs.{LineFault, spelled}
 use Rattle.assembler.specs.Splits.{split}
+use Rattle.command_words.specs.Words.{IsLine, Word}
+use Rattle.command_words.specs.declared.settings.Settings.{Settings}
 use Rattle.linkage.specs.declared.link_error.LinkError.{LinkError}
 use Rattle.linkage.specs.declared.link_error.LinkError.TheVariants as links
 use Rattle.stride_cli.specs.declared.words.Command.{Command}
@@ -30,8 +32,8 @@ use Rattle.stride_cli.specs.declared.status.Status.TheVariants.{Done, Usage, Too
 use Rattle.stride_cli.specs.declared.status.ProgramFault.TheVariants.{Text, Code}
 use Rattle.stride_cli.specs.Inferring.{Inference, Unlinked, Circular, Diverging, Ordered, Inferred, IsInferred}
 use Rattle.stride_cli.specs.Reports.{follow_report, infer_report, replay_report, show_report, sim_report}
-use Rattle.stride_cli.specs.Settings.{fuel, patience}
-use Rattle.stride_cli.specs.Words.{command_named}
+use Rattle.stride_cli.specs.Settings.{Limits, limits_of}
+use Rattle.stride_cli.specs.Words.{IsNoLine, offline_named}
 
 -- how a command ends, and what it puts
 pub record Answer : Type 0 where
@@ -78,12 +80,12 @@ abbrev pub order_part : List ℕ → List ℕ
 order_part bytes = drop (split bytes).order_start bytes
 
 -- what `follow` answers to an accepted program with an order: its run, or the refusal of the first member that can take no turn
-abbrev pub followed : Listing → List ℕ → Answer
-followed p order = played (replayed p fuel order) (refused_member p order (unwrap_or (refused_place p fuel order) 0))
+abbrev pub followed : Limits → Listing → List ℕ → Answer
+followed limits p order = played (replayed p limits.fuel order) (refused_member p order (unwrap_or (refused_place p limits.fuel order) 0))
 
 -- how a program is recorded
-abbrev pub setting_of : Listing → Setting
-setting_of p = record { program = p; fuel = fuel; patience = patience }
+abbrev pub setting_of : Limits → Listing → Setting
+setting_of limits p = record { program = p; fuel = limits.fuel; patience = limits.patience }
 
 -- an answer to an order, where it is spelled, or the refusal of its first fault
 abbrev pub with_order : (List ℕ → Answer) → Result (List ℕ) LineFault → Answer
@@ -156,21 +158,21 @@ abbrev pub AnswersLogs : (Listing → Bundled → Inferred → Answer → Type 0
 AnswersLogs Shows bundle p answer = (inference : Inference) × (IsInferred p bundle.fuel bundle.logs inference × AnswersInference (Shows p bundle) inference answer)
 
 -- what `sim` answers to a recording: its logs, the links and the schedule to which they come, and the run by the schedule
-pub record AnswersRecording (p : Listing) (recording : Recording) (answer : Answer) : Type 0 where
+pub record AnswersRecording (limits : Limits) (p : Listing) (recording : Recording) (answer : Answer) : Type 0 where
   pub inferred : Inferred
-  pub ordered : IsInferred p fuel recording.logs (Ordered inferred)
+  pub ordered : IsInferred p limits.fuel recording.logs (Ordered inferred)
   pub machine : Machine
-  pub runs : replayed p fuel inferred.schedule ≡ Some machine
+  pub runs : replayed p limits.fuel inferred.schedule ≡ Some machine
   pub shows : answer ≡ done (sim_report recording.logs inferred.links inferred.schedule machine)
 
 -- the answer to a recording; an order that names a thread which is not there is refused at the place of its first such member
-abbrev pub AnswersRecorded : Listing → Option ℕ → Recording → Answer → Type 0
-AnswersRecorded p None recording answer = AnswersRecording p recording answer
-AnswersRecorded p (Some place) recording answer = answer ≡ refused (NotEnabled place NoThread)
+abbrev pub AnswersRecorded : Limits → Listing → Option ℕ → Recording → Answer → Type 0
+AnswersRecorded limits p None recording answer = AnswersRecording limits p recording answer
+AnswersRecorded limits p (Some place) recording answer = answer ≡ refused (NotEnabled place NoThread)
 
 -- what `sim` answers to an accepted program with an order
-abbrev pub AnswersSimulated : Listing → List ℕ → Answer → Type 0
-AnswersSimulated p order answer = AnswersRecorded p (stranger (length p.threads) order) (driven (setting_of p) order) answer
+abbrev pub AnswersSimulated : Limits → Listing → List ℕ → Answer → Type 0
+AnswersSimulated limits p order answer = AnswersRecorded limits p (stranger (length p.threads) order) (driven (setting_of limits p) order) answer
 
 -- the answer to an order, where it is spelled, or the refusal of its first fault
 abbrev pub AnswersOrder : Result (List ℕ) LineFault → (List ℕ → Answer → Type 0) → Answer → Type 0
@@ -193,20 +195,29 @@ AnswersBundle Shows (Err refusal) answer = answer ≡ refused (Bundle refusal.ki
 AnswersBundle Shows (Ok bundle) answer = AnswersProgram bundle.text (spelled bundle.text) (AnswersLogs Shows bundle) answer
 
 -- the answer of a command to an input within the limit
-abbrev pub AnswersInput : Command → List ℕ → Answer → Type 0
-AnswersInput Check bytes answer = AnswersText bytes (λ p. done (canonical p)) answer
-AnswersInput Follow bytes answer = AnswersText (program_part bytes) (λ p. with_order (followed p) (order_of bytes)) answer
-AnswersInput Sim bytes answer = AnswersProgram (program_part bytes) (spelled (program_part bytes)) (λ p. AnswersOrder (order_of bytes) (AnswersSimulated p)) answer
-AnswersInput Show bytes answer = answer ≡ shown (reading bytes)
-AnswersInput Upgrade bytes answer = answer ≡ upgraded (reading bytes)
-AnswersInput Infer bytes answer = AnswersBundle AnswersLinks (reading bytes) answer
-AnswersInput Replay bytes answer = AnswersBundle AnswersRun (reading bytes) answer
+abbrev pub AnswersInput : Limits → Command → List ℕ → Answer → Type 0
+AnswersInput limits Check bytes answer = AnswersText bytes (λ p. done (canonical p)) answer
+AnswersInput limits Follow bytes answer = AnswersText (program_part bytes) (λ p. with_order (followed limits p) (order_of bytes)) answer
+AnswersInput limits Sim bytes answer = AnswersProgram (program_part bytes) (spelled (program_part bytes)) (λ p. AnswersOrder (order_of bytes) (AnswersSimulated limits p)) answer
+AnswersInput limits Show bytes answer = answer ≡ shown (reading bytes)
+AnswersInput limits Upgrade bytes answer = answer ≡ upgraded (reading bytes)
+AnswersInput limits Infer bytes answer = AnswersBundle AnswersLinks (reading bytes) answer
+AnswersInput limits Replay bytes answer = AnswersBundle AnswersRun (reading bytes) answer
 
--- the answer of the command that the words name, if they name one, to an input of any length
-abbrev pub AnswersBy : Option Command → List ℕ → Answer → Type 0
-AnswersBy None bytes answer = answer ≡ refused Usage
-AnswersBy (Some command) bytes answer = MatchBool (nat_lt INPUT_LIMIT (length bytes)) (answer ≡ refused TooLong) (AnswersInput command bytes answer)
+-- the answer of a command, if there is one, to an input of any length
+abbrev pub AnswersBy : Limits → Option Command → List ℕ → Answer → Type 0
+AnswersBy limits None bytes answer = answer ≡ refused Usage
+AnswersBy limits (Some command) bytes answer = MatchBool (nat_lt INPUT_LIMIT (length bytes)) (answer ≡ refused TooLong) (AnswersInput limits command bytes answer)
+
+-- the answer to settings and the bytes of the input
+abbrev pub AnswersSettings : List ℕ → Settings → Answer → Type 0
+AnswersSettings bytes settings answer = AnswersBy (limits_of settings) (offline_named settings.command) bytes answer
+
+-- the answer to words, where this is what is answered to settings: that to the settings of their line, or the refusal of words that
+-- are no line of the grammar
+abbrev pub AnswersWords : (Settings → Answer → Type 0) → List Word → Answer → Type 0
+AnswersWords Answers words answer = ((settings : Settings) × IsLine words settings × Answers settings answer) ⊎ (IsNoLine words × (answer ≡ refused Usage))
 
 -- the answer to the words and the bytes of the input
-abbrev pub IsAnswer : List (List ℕ) → List ℕ → Answer → Type 0
-IsAnswer words bytes answer = AnswersBy (command_named words) bytes answer
+abbrev pub IsAnswer : List Word → List ℕ → Answer → Type 0
+IsAnswer words bytes answer = AnswersWords (AnswersSettings bytes) words answer

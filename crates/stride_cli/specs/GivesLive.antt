@@ -12,24 +12,25 @@ use Rattle.stride_cli.specs.declared.words.Live.TheVariants.{Bundle, Run}
 use Rattle.stride_cli.specs.Answers.{done, refused}
 use Rattle.stride_cli.specs.Headline.{IsRecordedRun}
 use Rattle.stride_cli.specs.LiveAnswers.{AnswersLiveInput}
+use Rattle.stride_cli.specs.Settings.{Limits}
 
 -- the refusal is the live command's answer; want of memory says nothing, and nothing but the program is refused
-abbrev pub RefusesLive : Live → List ℕ → Refusal → Type 0
-RefusesLive live bytes NoMemory = Unit {0}
-RefusesLive live bytes (Program fault) = AnswersLiveInput live bytes (refused (statuses.Program fault))
-RefusesLive live bytes refusal = ⊥
+abbrev pub RefusesLive : Limits → Live → List ℕ → Refusal → Type 0
+RefusesLive limits live bytes NoMemory = Unit {0}
+RefusesLive limits live bytes (Program fault) = AnswersLiveInput limits live bytes (refused (statuses.Program fault))
+RefusesLive limits live bytes refusal = ⊥
 
 -- the report of the answer, or its refusal
-abbrev pub GivesLive : Result (Listed ℕ) Refusal → Live → List ℕ → Type 0
-GivesLive (Ok report) live bytes = AnswersLiveInput live bytes (done report.items)
-GivesLive (Err refusal) live bytes = RefusesLive live bytes refusal
+abbrev pub GivesLive : Result (Listed ℕ) Refusal → Limits → Live → List ℕ → Type 0
+GivesLive (Ok report) limits live bytes = AnswersLiveInput limits live bytes (done report.items)
+GivesLive (Err refusal) limits live bytes = RefusesLive limits live bytes refusal
 
 -- the report is that of the replay of a recording of the valid program that the bytes spell
-pub record IsRunOf (bytes report : List ℕ) (before after : ℕ) : Type 0 where
+pub record IsRunOf (limits : Limits) (bytes report : List ℕ) (before after : ℕ) : Type 0 where
   pub program : Listing
   pub spells : spelled bytes ≡ Ok program
   pub valid : IsValid program
-  pub run : IsRecordedRun program report before after
+  pub run : IsRecordedRun limits program report before after
 
 -- a fact where the command is `run`
 abbrev pub OnRun : Live → Type 0 → Type 0

@@ -1,42 +1,44 @@
 -- What `run` promises of every program that is accepted, however its threads interleave.
-use Rattle.std.specs.Prelude.{◌≡◌, ◌≤◌, ◌+◌, ◌*◌, ℕ, List, Option, Some, Ok, IfSome, length}
+use Rattle.std.specs.Prelude.{◌≡◌, ◌≤◌, ◌+◌, ◌*◌, ℕ, List, Option, Some, Ok, length}
 use Rattle.stride_base.specs.Devices.{Adds, AddsFront, Rose}
 use Rattle.stride_base.specs.declared.limits.TheConstants.{INPUT_LIMIT}
 use Rattle.stride_isa.specs.Listing.{Listing}
 use Rattle.stride_isa.specs.Validity.{IsValid}
 use Rattle.sc_machine.specs.Machine.{Machine}
 use Rattle.interleavings.specs.Recording.{IsRecording, Recording}
+use Rattle.command_words.specs.Words.{Word}
+use Rattle.command_words.specs.declared.settings.Command.TheVariants.{Run}
+use Rattle.command_words.specs.declared.settings.Settings.{Settings}
 use Rattle.assembler.specs.Programs.{spelled}
 use Rattle.history_laws.specs.RecordedRuns.{IsReplayOf, IsScheduleOf}
 use Rattle.stride_cli.specs.declared.status.Status.{Status}
 use Rattle.stride_cli.specs.declared.status.Status.TheVariants.{Done, NoMemory, ReadFault, WriteFault}
-use Rattle.stride_cli.specs.declared.words.Live.{Live}
-use Rattle.stride_cli.specs.declared.words.Live.TheVariants.{Bundle, Run}
 use Rattle.stride_cli.specs.Answers.{setting_of}
 use Rattle.stride_cli.specs.Reports.{replay_report}
-use Rattle.stride_cli.specs.Words.{live_named}
+use Rattle.stride_cli.specs.Settings.{Limits, limits_of}
+use Rattle.stride_cli.specs.Words.{OfLine}
 
 -- how many looks at events and at their links are enough to find the schedule of so many events
 abbrev pub look_limit : ℕ → ℕ
 look_limit events = 128 * (events + 1)
 
 -- the report is that of the replay of a recording, and so many looks were counted first and so many then
-pub record IsRecordedRun (p : Listing) (report : List ℕ) (before after : ℕ) : Type 0 where
+pub record IsRecordedRun (limits : Limits) (p : Listing) (report : List ℕ) (before after : ℕ) : Type 0 where
   -- what the program's threads left, which ran beside each other: the log, the output and the end of each, and the last values of
   -- the cells
   pub recording : Recording
   -- some history of single steps at the shared words left it, whichever steps the threads made first
-  pub recorded : IsRecording (setting_of p) recording
+  pub recorded : IsRecording (setting_of limits p) recording
   -- a list of thread numbers, one for each read, write, update, and entry into and exit from a monitor
   pub schedule : List ℕ
   -- it is the least that agrees with the recording's logs, and follows from the program and the logs alone
-  pub inferred : IsScheduleOf (setting_of p) recording schedule
+  pub inferred : IsScheduleOf (setting_of limits p) recording schedule
   -- the sequentially consistent machine at the end of the schedule's run
   pub machine : Machine
   -- in this run, in which each turn could be taken, each thread makes exactly its recorded reads, writes, updates, entries and
   -- exits, and has its recorded output and end; its lines of the transcript are its recorded output, byte for byte; and each cell
   -- is left with its recorded last value
-  pub replay : IsReplayOf (setting_of p) recording recorded.steps schedule machine
+  pub replay : IsReplayOf (setting_of limits p) recording recorded.steps schedule machine
   -- the report is the schedule with its length, the transcript and the ends of this run
   pub reported : report ≡ replay_report schedule machine
   -- the schedule was found within a number of looks that grows with its own length alone
@@ -54,27 +56,30 @@ pub record World : Type 0 where
   pub looks : ℕ
 
 -- the report of the replay of a recording was put so
-pub record HasPut (p : Listing) (before after : World) (Put : List ℕ → Type 0) : Type 0 where
+pub record HasPut (limits : Limits) (p : Listing) (before after : World) (Put : List ℕ → Type 0) : Type 0 where
   pub report : List ℕ
-  pub run : IsRecordedRun p report before.looks after.looks
+  pub run : IsRecordedRun limits p report before.looks after.looks
   pub put : Put report
 
 -- what `run` has done when it ends with a status, where its input is this valid program: it is done, and has put the whole report; or
 -- the sink met a fault, and holds a prefix of the report; or the source met a fault; or memory ran out. It ends in no other way
-abbrev pub KeepsPromise : Listing → World → World → Status → Type 0
-KeepsPromise p before after Done = HasPut p before after (Adds before.held after.held)
-KeepsPromise p before after WriteFault = Rose before.sink_faults after.sink_faults × HasPut p before after (AddsFront before.held after.held)
-KeepsPromise p before after ReadFault = Rose before.source_faults after.source_faults
-KeepsPromise p before after NoMemory = Unit {0}
-KeepsPromise p before after status = ⊥
+abbrev pub KeepsPromise : Limits → Listing → World → World → Status → Type 0
+KeepsPromise limits p before after Done = HasPut limits p before after (Adds before.held after.held)
+KeepsPromise limits p before after WriteFault = Rose before.sink_faults after.sink_faults × HasPut limits p before after (AddsFront before.held after.held)
+KeepsPromise limits p before after ReadFault = Rose before.source_faults after.source_faults
+KeepsPromise limits p before after NoMemory = Unit {0}
+KeepsPromise limits p before after status = ⊥
 
--- a live command keeps the promise, whose source has these bytes left: where it is `run`, and the bytes are no more than an input may
--- have and spell a valid program
-abbrev pub IsKept : Live → Option (List ℕ) → World → World → Status → Type 0
-IsKept Bundle left before after status = Unit {0}
-IsKept Run left before after status =
-    (bytes : List ℕ) (p : Listing) → left ≡ Some bytes → length bytes ≤ INPUT_LIMIT → spelled bytes ≡ Ok p → IsValid p → KeepsPromise p before after status
+-- the promise is kept with these limits, where the source has these bytes left: they are no more than an input may have, and spell a
+-- valid program
+abbrev pub IsKept : Limits → Option (List ℕ) → World → World → Status → Type 0
+IsKept limits left before after status =
+    (bytes : List ℕ) (p : Listing) → left ≡ Some bytes → length bytes ≤ INPUT_LIMIT → spelled bytes ≡ Ok p → IsValid p → KeepsPromise limits p before after status
 
--- the same of a call with these words: where they name `run`, the promise is kept
-abbrev pub Headline : List (List ℕ) → Option (List ℕ) → World → World → Status → Type 0
-Headline words left before after status = IfSome (live_named words) (λ command. IsKept command left before after status)
+-- where the settings name `run`, the promise is kept with their limits
+abbrev pub IsKeptBy : Settings → Option (List ℕ) → World → World → Status → Type 0
+IsKeptBy settings left before after status = settings.command ≡ Run → IsKept (limits_of settings) left before after status
+
+-- the same of a call with these words, where they are a line of the grammar
+abbrev pub Headline : List Word → Option (List ℕ) → World → World → Status → Type 0
+Headline words left before after status = OfLine words (λ settings. IsKeptBy settings left before after status)

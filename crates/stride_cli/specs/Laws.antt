@@ -1,28 +1,29 @@
 -- What holds of the answers to words and bytes.
-use Rattle.std.specs.Prelude.{◌≡◌, ℕ, List, Ok, None, Some, length}
+use Rattle.std.specs.Prelude.{◌≡◌, ◌⊎◌, ℕ, List, Ok, None, length}
 use Rattle.stride_isa.specs.Listing.{Listing}
 use Rattle.stride_isa.specs.Validity.{IsValid}
 use Rattle.interleavings.specs.Driving.{driven, stranger, whole_run}
 use Rattle.interleavings.specs.Following.{Followed, follow_all}
 use Rattle.interleavings.specs.Recording.{IsFollowed}
+use Rattle.command_words.specs.Words.{Word}
+use Rattle.command_words.specs.declared.settings.Command.TheVariants.{Replay, Sim}
 use Rattle.log_format.specs.Bundles.{Bundled}
 use Rattle.log_format.specs.Reading.{reading}
 use Rattle.assembler.specs.Programs.{spelled}
 use Rattle.event_order.specs.DirectOrder.{LinkRows}
 use Rattle.event_order.specs.Laws.{RunsAsFollowed}
-use Rattle.stride_cli.specs.declared.words.Command.TheVariants.{Replay, Sim}
 use Rattle.stride_cli.specs.Answers.{Answer, IsAnswer, done, order_of, program_part, setting_of}
 use Rattle.stride_cli.specs.Reports.{replay_report, sim_report}
-use Rattle.stride_cli.specs.Settings.{fuel}
-use Rattle.stride_cli.specs.Words.{command_named}
+use Rattle.stride_cli.specs.Settings.{Limits, limits_of}
+use Rattle.stride_cli.specs.Words.{HasLine, IsNoLine, OfLine}
 
--- words and bytes have an answer
+-- words that are a line of the grammar, or none, and bytes have an answer
 abbrev pub AnAnswer : Type 0
-AnAnswer = (words : List (List ℕ)) (bytes : List ℕ) → (answer : Answer) × IsAnswer words bytes answer
+AnAnswer = (words : List Word) (bytes : List ℕ) → HasLine words ⊎ IsNoLine words → (answer : Answer) × IsAnswer words bytes answer
 
 -- words and bytes have one answer at most
 abbrev pub OneAnswer : Type 0
-OneAnswer = (words : List (List ℕ)) (bytes : List ℕ) (answer other : Answer) → IsAnswer words bytes answer → IsAnswer words bytes other → answer ≡ other
+OneAnswer = (words : List Word) (bytes : List ℕ) (answer other : Answer) → IsAnswer words bytes answer → IsAnswer words bytes other → answer ≡ other
 
 -- the bytes are a bundle of a valid program whose threads follow their logs, and the report tells of a schedule and its run on
 -- the sequentially consistent machine, in which each thread makes exactly the reads, writes, updates and turns of monitors that
@@ -42,23 +43,23 @@ pub record IsReplayed (bytes report : List ℕ) : Type 0 where
 -- the bytes are a valid program with an order that names its threads alone; the report tells of the logs of the recording that the
 -- order gives, of the links of its events, and of a schedule and its run on the sequentially consistent machine, in which each
 -- thread makes exactly the events that the steps of the recording finished, and is left with its recorded output and end
-pub record IsSimulated (bytes report : List ℕ) : Type 0 where
+pub record IsSimulated (limits : Limits) (bytes report : List ℕ) : Type 0 where
   pub program : Listing
   pub spells : spelled (program_part bytes) ≡ Ok program
   pub valid : IsValid program
   pub order : List ℕ
   pub ordered : order_of bytes ≡ Ok order
   pub known : stranger (length program.threads) order ≡ None
-  pub followed : IsFollowed (setting_of program) (driven (setting_of program) order) (whole_run (setting_of program) order).steps
+  pub followed : IsFollowed (setting_of limits program) (driven (setting_of limits program) order) (whole_run (setting_of limits program) order).steps
   pub links : LinkRows
   pub schedule : List ℕ
-  pub run : RunsAsFollowed program fuel followed.followed schedule
-  pub shows : report ≡ sim_report (driven (setting_of program) order).logs links schedule run.machine
+  pub run : RunsAsFollowed program limits.fuel followed.followed schedule
+  pub shows : report ≡ sim_report (driven (setting_of limits program) order).logs links schedule run.machine
 
--- whatever bytes `sim` is done with, it reports such a recording and its run
+-- whatever bytes `sim` is done with, it reports such a recording with the limits that the words set, and its run
 abbrev pub SimulationsAreRuns : Type 0
-SimulationsAreRuns = (words : List (List ℕ)) (bytes report : List ℕ) → command_named words ≡ Some Sim → IsAnswer words bytes (done report) → IsSimulated bytes report
+SimulationsAreRuns = (words : List Word) (bytes report : List ℕ) → IsAnswer words bytes (done report) → OfLine words (λ settings. settings.command ≡ Sim → IsSimulated (limits_of settings) bytes report)
 
 -- whatever bytes `replay` is done with, it reports such a run
 abbrev pub ReplaysAreRuns : Type 0
-ReplaysAreRuns = (words : List (List ℕ)) (bytes report : List ℕ) → command_named words ≡ Some Replay → IsAnswer words bytes (done report) → IsReplayed bytes report
+ReplaysAreRuns = (words : List Word) (bytes report : List ℕ) → IsAnswer words bytes (done report) → OfLine words (λ settings. settings.command ≡ Replay → IsReplayed bytes report)

@@ -7,10 +7,12 @@ pub mod Headline
 pub mod Inferring
 pub mod Inputs
 pub mod Laws
+pub mod LimitsSeen
 pub mod LiveAnswers
 pub mod LiveLaws
 pub mod LiveLooks
 pub mod Looks
+pub mod Playing
 pub mod Refusals
 pub mod Reports
 pub mod Runs

@@ -8,6 +8,8 @@ use Rattle.sc_machine.specs.Schedule.{replayed}
 use Rattle.interleavings.specs.Recording.{IsRecording, Recording}
 use Rattle.assembler.specs.Canonical.{canonical}
 use Rattle.assembler.specs.Programs.{spelled}
+use Rattle.command_words.specs.Words.{Word}
+use Rattle.command_words.specs.declared.settings.Settings.{Settings}
 use Rattle.log_format.specs.Bundles.{Bundled, IsInRange}
 use Rattle.log_format.specs.Spelling.{spelling}
 use Rattle.log_format.specs.declared.version.Version.TheVariants.{Two}
@@ -15,53 +17,57 @@ use Rattle.history_laws.specs.RecordedRuns.{IsScheduleOf}
 use Rattle.stride_cli.specs.declared.status.Status.TheVariants.{TooLong}
 use Rattle.stride_cli.specs.declared.words.Live.{Live}
 use Rattle.stride_cli.specs.declared.words.Live.TheVariants.{Bundle, Run}
-use Rattle.stride_cli.specs.Answers.{Answer, AnswersProgram, IsAnswer, done, refused, setting_of}
+use Rattle.stride_cli.specs.Answers.{Answer, AnswersProgram, AnswersSettings, AnswersWords, done, refused, setting_of}
 use Rattle.stride_cli.specs.Reports.{replay_report}
-use Rattle.stride_cli.specs.Settings.{fuel}
+use Rattle.stride_cli.specs.Settings.{Limits, limits_of}
 use Rattle.stride_cli.specs.Words.{live_named}
 
 -- what `run` answers to a valid program: the run of a recording of it, by the schedule that is inferred from the recording's logs
-pub record AnswersLiveRun (p : Listing) (answer : Answer) : Type 0 where
+pub record AnswersLiveRun (limits : Limits) (p : Listing) (answer : Answer) : Type 0 where
   pub recording : Recording
-  pub recorded : IsRecording (setting_of p) recording
+  pub recorded : IsRecording (setting_of limits p) recording
   pub schedule : List ℕ
-  pub inferred : IsScheduleOf (setting_of p) recording schedule
+  pub inferred : IsScheduleOf (setting_of limits p) recording schedule
   pub machine : Machine
-  pub runs : replayed p fuel schedule ≡ Some machine
+  pub runs : replayed p limits.fuel schedule ≡ Some machine
   pub shows : answer ≡ done (replay_report schedule machine)
 
 -- the bundle of a recording: the fuel, the program's canonical text and the recording's logs
-abbrev pub bundle_of : Listing → Recording → Bundled
-bundle_of p recording = record { fuel = fuel; text = canonical p; logs = recording.logs }
+abbrev pub bundle_of : Limits → Listing → Recording → Bundled
+bundle_of limits p recording = record { fuel = limits.fuel; text = canonical p; logs = recording.logs }
 
 -- what `bundle` answers to a valid program: the spelling in version 2 of the bundle of a recording of it. The version can hold the
 -- bundle, the spelling is no more than an input may have, and its text spells the program
-pub record AnswersLiveBundle (p : Listing) (answer : Answer) : Type 0 where
+pub record AnswersLiveBundle (limits : Limits) (p : Listing) (answer : Answer) : Type 0 where
   pub recording : Recording
-  pub recorded : IsRecording (setting_of p) recording
-  pub fits : IsInRange Two (bundle_of p recording)
-  pub short : length (spelling Two (bundle_of p recording)) ≤ INPUT_LIMIT
+  pub recorded : IsRecording (setting_of limits p) recording
+  pub fits : IsInRange Two (bundle_of limits p recording)
+  pub short : length (spelling Two (bundle_of limits p recording)) ≤ INPUT_LIMIT
   pub text : spelled (canonical p) ≡ Ok p
-  pub shows : answer ≡ done (spelling Two (bundle_of p recording))
+  pub shows : answer ≡ done (spelling Two (bundle_of limits p recording))
 
 -- what a live command answers to a valid program
-abbrev pub AnswersLive : Live → Listing → Answer → Type 0
-AnswersLive Run p answer = AnswersLiveRun p answer
-AnswersLive Bundle p answer = AnswersLiveBundle p answer
+abbrev pub AnswersLive : Limits → Live → Listing → Answer → Type 0
+AnswersLive limits Run p answer = AnswersLiveRun limits p answer
+AnswersLive limits Bundle p answer = AnswersLiveBundle limits p answer
 
 -- the answer of a live command to an input within the limit
-abbrev pub AnswersLiveInput : Live → List ℕ → Answer → Type 0
-AnswersLiveInput live bytes answer = AnswersProgram bytes (spelled bytes) (AnswersLive live) answer
+abbrev pub AnswersLiveInput : Limits → Live → List ℕ → Answer → Type 0
+AnswersLiveInput limits live bytes answer = AnswersProgram bytes (spelled bytes) (AnswersLive limits live) answer
 
 -- the answer of a live command to an input of any length
-abbrev pub AnswersLiveBytes : Live → List ℕ → Answer → Type 0
-AnswersLiveBytes live bytes answer = MatchBool (nat_lt INPUT_LIMIT (length bytes)) (answer ≡ refused TooLong) (AnswersLiveInput live bytes answer)
+abbrev pub AnswersLiveBytes : Limits → Live → List ℕ → Answer → Type 0
+AnswersLiveBytes limits live bytes answer = MatchBool (nat_lt INPUT_LIMIT (length bytes)) (answer ≡ refused TooLong) (AnswersLiveInput limits live bytes answer)
 
--- the answer of the live command that the words name; words that name none are answered as without threads
-abbrev pub AnswersNamed : Option Live → List (List ℕ) → List ℕ → Answer → Type 0
-AnswersNamed None words bytes answer = IsAnswer words bytes answer
-AnswersNamed (Some live) words bytes answer = AnswersLiveBytes live bytes answer
+-- the answer of the live command, if the settings name one; others are answered as without threads
+abbrev pub AnswersNamed : Option Live → List ℕ → Settings → Answer → Type 0
+AnswersNamed None bytes settings answer = AnswersSettings bytes settings answer
+AnswersNamed (Some live) bytes settings answer = AnswersLiveBytes (limits_of settings) live bytes answer
+
+-- an answer to settings and the bytes of the input, where threads may run beside each other
+abbrev pub AnswersLiveSettings : List ℕ → Settings → Answer → Type 0
+AnswersLiveSettings bytes settings answer = AnswersNamed (live_named settings.command) bytes settings answer
 
 -- an answer to the words and the bytes of the input, where threads may run beside each other
-abbrev pub IsStrideAnswer : List (List ℕ) → List ℕ → Answer → Type 0
-IsStrideAnswer words bytes answer = AnswersNamed (live_named words) words bytes answer
+abbrev pub IsStrideAnswer : List Word → List ℕ → Answer → Type 0
+IsStrideAnswer words bytes answer = AnswersWords (AnswersLiveSettings bytes) words answer

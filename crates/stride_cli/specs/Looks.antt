@@ -13,7 +13,7 @@ use Rattle.event_order.specs.Answers.{most_looks as most_looks_of_order}
 use Rattle.event_order.specs.Laws.{traces_of}
 use Rattle.interleavings.specs.Driving.{driven}
 use Rattle.stride_cli.specs.Answers.{order_of, program_part, setting_of}
-use Rattle.stride_cli.specs.Settings.{fuel}
+use Rattle.stride_cli.specs.Settings.{Limits}
 use Rattle.stride_cli.specs.declared.refusal.Refusal.{Refusal}
 use Rattle.stride_cli.specs.declared.refusal.Refusal.TheVariants as refusals
 use Rattle.stride_cli.specs.declared.status.Status.{Status}
@@ -45,25 +45,25 @@ bundle_looks share (Ok bundle) = spelled_looks share bundle (spelled bundle.text
 bundle_looks share (Err refusal) = 0
 
 -- the share of a program with an order: that of the logs that the order gives; none where one of them is not spelled
-abbrev pub simulated_looks : Result (List ℕ) LineFault → Result Listing LineFault → ℕ
-simulated_looks (Ok order) (Ok p) = followed_looks printing_looks p (follow_all p fuel (driven (setting_of p) order).logs)
-simulated_looks (Ok order) (Err fault) = 0
-simulated_looks (Err fault) spelling = 0
+abbrev pub simulated_looks : Limits → Result (List ℕ) LineFault → Result Listing LineFault → ℕ
+simulated_looks limits (Ok order) (Ok p) = followed_looks printing_looks p (follow_all p limits.fuel (driven (setting_of limits p) order).logs)
+simulated_looks limits (Ok order) (Err fault) = 0
+simulated_looks limits (Err fault) spelling = 0
 
 -- the share of a command
-abbrev pub command_looks : Command → List ℕ → ℕ
-command_looks Infer bytes = bundle_looks printing_looks (reading bytes)
-command_looks Replay bytes = bundle_looks inferring_looks (reading bytes)
-command_looks Check bytes = 0
-command_looks Follow bytes = 0
-command_looks Sim bytes = simulated_looks (order_of bytes) (spelled (program_part bytes))
-command_looks Show bytes = 0
-command_looks Upgrade bytes = 0
+abbrev pub command_looks : Limits → Command → List ℕ → ℕ
+command_looks limits Infer bytes = bundle_looks printing_looks (reading bytes)
+command_looks limits Replay bytes = bundle_looks inferring_looks (reading bytes)
+command_looks limits Check bytes = 0
+command_looks limits Follow bytes = 0
+command_looks limits Sim bytes = simulated_looks limits (order_of bytes) (spelled (program_part bytes))
+command_looks limits Show bytes = 0
+command_looks limits Upgrade bytes = 0
 
 -- how many looks the command that is named takes at most on an input
-abbrev pub most_looks : Option Command → List ℕ → ℕ
-most_looks None bytes = 0
-most_looks (Some command) bytes = command_looks command bytes
+abbrev pub most_looks : Limits → Option Command → List ℕ → ℕ
+most_looks limits None bytes = 0
+most_looks limits (Some command) bytes = command_looks limits command bytes
 
 -- the greatest share of any command on any input: that of as many events as all threads of a program have fuel
 abbrev pub greatest_looks : ℕ

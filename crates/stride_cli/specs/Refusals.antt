@@ -1,5 +1,7 @@
 -- How the refusals of the layers below are told. Only private clauses cite this module.
 use Rattle.std.specs.Prelude.{ℕ, List, length, slice_index}
+use Rattle.stride_base.specs.declared.input_error.InputError.{InputError}
+use Rattle.stride_base.specs.declared.input_error.InputError.TheVariants as inputs
 use Rattle.stride_isa.specs.declared.check_error.CheckError.{CheckError}
 use Rattle.stride_isa.specs.declared.check_error.CheckError.TheVariants as checks
 use Rattle.assembler.specs.CodeLines.{code_line}
@@ -26,6 +28,12 @@ use Rattle.stride_cli.specs.declared.status.MemberFault.TheVariants.{NoThread}
 use Rattle.stride_cli.specs.declared.status.ProgramFault.TheVariants.{Text, Code}
 use Rattle.stride_cli.specs.declared.status.Status.{Status}
 use Rattle.stride_cli.specs.declared.status.Status.TheVariants as statuses
+
+-- an input that can't be read
+abbrev pub of_input : InputError → Status
+of_input inputs.ReadFault = statuses.ReadFault
+of_input inputs.TooLong = statuses.TooLong
+of_input inputs.NoMemory = statuses.NoMemory
 
 -- a refused text or order
 abbrev pub of_text : AsmError → Refusal

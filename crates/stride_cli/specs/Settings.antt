@@ -1,11 +1,22 @@
--- The settings of a run.
-use Rattle.std.specs.Prelude.{ℕ}
+-- How programs are run, by what the words set.
+use Rattle.std.specs.Prelude.{ℕ, ◌≤◌, unwrap_or}
+use Rattle.stride_isa.specs.Limits.{fuel_limit}
+use Rattle.interleavings.specs.declared.limits.TheConstants.{PATIENCE_LIMIT}
+use Rattle.command_words.specs.declared.settings.Settings.{Settings}
 use Rattle.stride_cli.specs.declared.settings.TheConstants.{FUEL, PATIENCE}
 
--- how many instructions each thread may make
-abbrev pub fuel : ℕ
-fuel = FUEL
+-- how many instructions each thread may make, and after how many odd looks in a row it gives up
+pub record Limits : Type 0 where
+  pub fuel : ℕ
+  pub patience : ℕ
 
--- after how many odd looks in a row a thread gives up
-abbrev pub patience : ℕ
-patience = PATIENCE
+-- what the options set, and the default for an option that isn't given
+abbrev pub limits_of : Settings → Limits
+limits_of settings = record { fuel = unwrap_or settings.fuel FUEL; patience = unwrap_or settings.patience PATIENCE }
+
+-- there is some of each, and no more than may be set
+pub record AreInRange (limits : Limits) : Type 0 where
+  pub some_fuel : 1 ≤ limits.fuel
+  pub fuel : limits.fuel ≤ fuel_limit
+  pub some_patience : 1 ≤ limits.patience
+  pub patience : limits.patience ≤ PATIENCE_LIMIT

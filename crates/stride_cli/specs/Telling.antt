@@ -1,6 +1,7 @@
 -- What the status of a call tells of the answer.
 use Rattle.std.specs.Prelude.{ℕ, List, Option, Some, None}
 use Rattle.stride_base.specs.Devices.{Adds, AddsFront}
+use Rattle.command_words.specs.Words.{Word}
 use Rattle.stride_cli.specs.declared.status.Status.{Status}
 use Rattle.stride_cli.specs.declared.status.Status.TheVariants.{Diverges, Done, NoLinkage, NotEnabled, ReadFault, WriteFault, NoMemory}
 use Rattle.stride_cli.specs.declared.words.Command.{Command}
@@ -24,8 +25,13 @@ TellsBy IsAnswered old new (NoLinkage fault) = IsAnswered (refused (NoLinkage (f
 TellsBy IsAnswered old new status = IsAnswered (refused status)
 
 -- the same of the commands that start no thread
-abbrev pub Tells : List (List ℕ) → List ℕ → Option (List ℕ) → Option (List ℕ) → Status → Type 0
+abbrev pub Tells : List Word → List ℕ → Option (List ℕ) → Option (List ℕ) → Status → Type 0
 Tells words bytes old new status = TellsBy (IsAnswer words bytes) old new status
+
+-- a fact where memory didn't run out
+abbrev pub OnMemory : Status → Type 0 → Type 0
+OnMemory NoMemory fact = Unit {0}
+OnMemory given fact = fact
 
 -- a fact where the whole report was put
 abbrev pub OnDone : Status → Type 0 → Type 0

@@ -1,28 +1,48 @@
--- The words of the command line.
-use Rattle.std.specs.Prelude.{ℕ, List, [], ◌∷◌, Option, Some, None, codes, if◌then◌else◌}
-use Rattle.std.specs.Str.{bytes_eq}
+-- What the words of the command line name.
+use Rattle.std.specs.Prelude.{List, Option, Some, None}
+use Rattle.command_words.specs.Words.{IsLine, Word}
+use Rattle.command_words.specs.declared.settings.Command.{Command as Named}
+use Rattle.command_words.specs.declared.settings.Command.TheVariants as named
+use Rattle.command_words.specs.declared.settings.Settings.{Settings}
 use Rattle.stride_cli.specs.declared.words.Command.{Command}
 use Rattle.stride_cli.specs.declared.words.Command.TheVariants.{Check, Follow, Infer, Replay, Show, Sim, Upgrade}
 use Rattle.stride_cli.specs.declared.words.Live.{Live}
 use Rattle.stride_cli.specs.declared.words.Live.TheVariants.{Bundle, Run}
 
--- the command of this name
-abbrev pub command_with_name : List ℕ → Option Command
-command_with_name name =
-    if bytes_eq name (codes "check") then Some Check else (if bytes_eq name (codes "follow") then Some Follow else (if bytes_eq name (codes "sim") then Some Sim else (if bytes_eq name (codes "show") then Some Show else (if bytes_eq name (codes "upgrade") then Some Upgrade else (if bytes_eq name (codes "infer") then Some Infer else (if bytes_eq name (codes "replay") then Some Replay else None))))))
+-- the command that is named, where it starts no thread; a demonstration isn't done yet
+abbrev pub offline_named : Named → Option Command
+offline_named named.Check = Some Check
+offline_named named.Follow = Some Follow
+offline_named named.Sim = Some Sim
+offline_named named.Show = Some Show
+offline_named named.Upgrade = Some Upgrade
+offline_named named.Infer = Some Infer
+offline_named named.Replay = Some Replay
+offline_named named.Run = None
+offline_named named.Bundle = None
+offline_named (named.Demo number live) = None
 
--- the command that the words name: one word, which is its name
-abbrev pub command_named : List (List ℕ) → Option Command
-command_named [] = None
-command_named (name ∷ []) = command_with_name name
-command_named (name ∷ next ∷ words) = None
+-- the command that is named, where its threads run beside each other
+abbrev pub live_named : Named → Option Live
+live_named named.Run = Some Run
+live_named named.Bundle = Some Bundle
+live_named named.Check = None
+live_named named.Follow = None
+live_named named.Sim = None
+live_named named.Show = None
+live_named named.Upgrade = None
+live_named named.Infer = None
+live_named named.Replay = None
+live_named (named.Demo number live) = None
 
--- the live command of this name
-abbrev pub live_with_name : List ℕ → Option Live
-live_with_name name = if bytes_eq name (codes "run") then Some Run else (if bytes_eq name (codes "bundle") then Some Bundle else None)
+-- the words are a line of the grammar, with some settings
+abbrev pub HasLine : List Word → Type 0
+HasLine words = (settings : Settings) × IsLine words settings
 
--- the live command that the words name: one word, which is its name
-abbrev pub live_named : List (List ℕ) → Option Live
-live_named [] = None
-live_named (name ∷ []) = live_with_name name
-live_named (name ∷ next ∷ words) = None
+-- a fact about the settings of the words, where these are a line of the grammar
+abbrev pub OfLine : List Word → (Settings → Type 0) → Type 0
+OfLine words Holds = (settings : Settings) → IsLine words settings → Holds settings
+
+-- the words are no line of the grammar
+abbrev pub IsNoLine : List Word → Type 0
+IsNoLine words = OfLine words (λ _. ⊥)

@@ -2,10 +2,11 @@
 ghost use Rattle.std.specs.Prelude.{◌≡◌, ◌+◌, ◌*◌, ◌≤◌, length, IfOk, IfErr};
 ghost use Rattle.linkage.specs.Sources.{event_count};
 ghost use Rattle.stride_cli.specs.Bundles.{IsRerun, RefusesEvents};
-ghost use Rattle.stride_cli.specs.Gives.{Refuses};
+ghost use Rattle.stride_cli.specs.Answers.{AnswersBundle, AnswersLinks, AnswersRun};
+ghost use Rattle.stride_cli.specs.Gives.{RefusesBy};
+ghost use Rattle.log_format.specs.Reading.{reading};
 ghost use Rattle.stride_cli.specs.Inferring.{IsInferredOf, SchedulesEvents, Ordered};
 ghost use Rattle.stride_cli.specs.Looks.{inferring_looks};
-ghost use Rattle.stride_cli.specs.declared.words.Command.TheVariants.{Infer, Replay};
 
 use crate::input::accept;
 use crate::refusal::Refusal;
@@ -35,8 +36,8 @@ pub fn rerun_bundle(alloc: Global, bytes: List<u8>) -> Result<Rerunning, Refusal
     requires { length bytes.items ≤ INPUT_LIMIT }
     ensures rerun { IfOk result (λ rerun. IsRerun bytes.items rerun.program rerun.fuel rerun.traces) }
     ensures few { IfOk result (λ rerun. event_count rerun.traces ≤ THREAD_LIMIT * FUEL_LIMIT) }
-    ensures infer { IfErr result (Refuses Infer bytes.items) }
-    ensures replay { IfErr result (Refuses Replay bytes.items) }
+    ensures infer { IfErr result (RefusesBy (AnswersBundle AnswersLinks (reading bytes.items))) }
+    ensures replay { IfErr result (RefusesBy (AnswersBundle AnswersRun (reading bytes.items))) }
 {
     let all = bytes.as_slice();
     let bundle = decode(alloc, all)?;

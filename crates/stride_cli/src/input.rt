@@ -2,16 +2,28 @@
 ghost use Rattle.std.specs.Prelude.{◌≡◌, ◌≤◌, length, IfOk, IfErr};
 ghost use Rattle.stride_cli.specs.Gives.{Refuses};
 ghost use Rattle.stride_cli.specs.Inputs.{Accepts, IsInput};
-ghost use Rattle.stride_cli.specs.Refusals.{of_check};
+ghost use Rattle.stride_cli.specs.Refusals.{of_check, of_input};
+ghost use Rattle.stride_cli.specs.Settings.{Limits};
 ghost use Rattle.stride_cli.specs.declared.words.Command.TheVariants.{Follow, Sim};
 
 use crate::refusal::Refusal;
-use crate::status::ProgramFault;
+use crate::status::{ProgramFault, Status};
 use assembler::{assemble, line_of_code, read_order, split_order};
 use std::alloc::Global;
-use stride_base::List;
 use stride_base::limits::INPUT_LIMIT;
+use stride_base::{InputError, List};
 use stride_isa::{CheckError, Checked, check};
+
+/// The status of an input that can't be read.
+pub fn unread(error: InputError) -> Status
+    ensures { result ≡ of_input error }
+{
+    match error {
+        InputError::ReadFault => Status::ReadFault,
+        InputError::TooLong => Status::TooLong,
+        InputError::NoMemory => Status::NoMemory,
+    }
+}
 
 // The refusal of the program that the text spells, with the line on which its fault is.
 fn refused_by_check(text: &[u8], error: CheckError) -> Refusal
@@ -58,8 +70,8 @@ pub struct Input {
 pub fn read_input(alloc: Global, bytes: &[u8]) -> Result<Input, Refusal>
     requires { length bytes.now ≤ INPUT_LIMIT }
     ensures input { IfOk result (λ input. IsInput bytes.now input.program input.order.items) }
-    ensures follow { IfErr result (Refuses Follow bytes.now) }
-    ensures sim { IfErr result (Refuses Sim bytes.now) }
+    ensures follow { IfErr result (λ refusal. (limits : Limits) → Refuses limits Follow bytes.now refusal) }
+    ensures sim { IfErr result (λ refusal. (limits : Limits) → Refuses limits Sim bytes.now refusal) }
 {
     let split = split_order(bytes);
     let program = accept(alloc, bytes.split_at(split.program_end).0)?;

@@ -2,7 +2,7 @@
 ghost use Rattle.stride_cli.specs.Laws.{AnAnswer, OneAnswer, ReplaysAreRuns, SimulationsAreRuns};
 ghost use Rattle.stride_cli.specs.LiveLaws.{BundlesAreReplayed};
 
-/// The words and the bytes of an input have an answer.
+/// Words that are a line of the grammar, or none, and the bytes of an input have an answer.
 pub fn an_answer()
     ensures { AnAnswer }
 {
@@ -22,6 +22,7 @@ pub fn an_answer()
 pub fn one_answer()
     ensures { OneAnswer }
 {
+    command_words::one_reading();
     stride_isa::one_verdict();
     linkage::one_first_refusal();
     linkage::one_linking();
@@ -35,6 +36,7 @@ pub fn one_answer()
 pub fn replays_are_runs()
     ensures { ReplaysAreRuns }
 {
+    command_words::one_reading();
     event_order::extensions_are_runs();
     log_format::fuel_is_in_range();
 }
@@ -44,6 +46,7 @@ pub fn replays_are_runs()
 pub fn simulations_are_runs()
     ensures { SimulationsAreRuns }
 {
+    command_words::one_reading();
     interleavings::driven_is_followed();
     event_order::extensions_are_runs();
 }
@@ -53,6 +56,7 @@ pub fn simulations_are_runs()
 pub fn bundles_are_replayed()
     ensures { BundlesAreReplayed }
 {
+    command_words::one_reading();
     stride_isa::one_verdict();
     log_format::spelling_is_read();
     event_order::followed_are_in_range();

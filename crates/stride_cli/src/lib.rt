@@ -1,6 +1,6 @@
 //! The commands of `stride`, from words and bytes to bytes and a status.
 //!
-//! Owns: the words of the command line (`Words`), the reports (`Reports`), what logs come to (`Inferring`), the answer to
+//! Owns: what the words name and set (`Words`, `Settings`), the reports (`Reports`), what logs come to (`Inferring`), the answer to
 //! words and bytes (`Answers`), what a status tells of it (`Telling`), and how many looks it takes (`Looks`).
 //! The layer above is `main` alone. It may rely on the clauses of `offline`: the status and the report are those of the
 //! answer, of which there is one, a fault is answered only where the device's count rose, and a refusal leaves
@@ -12,6 +12,7 @@ mod commands;
 mod inferring;
 mod input;
 mod laws;
+mod limits;
 mod messages;
 mod offline_call;
 mod recorded;

@@ -68,7 +68,7 @@ pub enum LinkageFault {
 pub enum Status {
     /// The input was read to its end, and the whole report was put.
     Done,
-    /// The words are no command.
+    /// The words are no line of the command line's grammar, or one of a command that the call doesn't do.
     Usage,
     /// The input could not be read.
     ReadFault,
@@ -122,7 +122,7 @@ impl fmt::Display for Status {
             Status::Done => write!(f, "done"),
             Status::Usage => write!(
                 f,
-                "usage: stride COMMAND < INPUT, with one COMMAND of check, follow, sim, run, bundle, show, upgrade, infer, replay"
+                "usage: stride [--fuel N] [--patience N] COMMAND < INPUT, with one COMMAND of check, follow, sim, run, bundle, show, upgrade, infer, replay"
             ),
             Status::ReadFault => write!(
                 f,

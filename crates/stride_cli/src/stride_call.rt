@@ -1,37 +1,44 @@
 //! The top call for all commands.
 ghost use Rattle.std.specs.Prelude.{◌≡◌, ◌+◌, ◌≤◌, ◌↔◌, [], None, Ok, Some, IfSome, map, length};
 ghost use Rattle.stride_base.specs.Devices.{Rose};
-ghost use Rattle.stride_cli.specs.Headline.{Headline, IsKept, World};
-ghost use Rattle.stride_cli.specs.LiveAnswers.{AnswersLiveBytes, IsStrideAnswer};
+ghost use Rattle.stride_cli.specs.GivesLive.{OnRun};
+ghost use Rattle.stride_cli.specs.Headline.{Headline, IsKept, IsKeptBy, World};
+ghost use Rattle.stride_cli.specs.LimitsSeen.{limits_seen};
+ghost use Rattle.stride_cli.specs.LiveAnswers.{AnswersLiveBytes, AnswersLiveSettings, IsStrideAnswer};
 ghost use Rattle.stride_cli.specs.LiveLooks.{LiveLooks, NamedLooks, OnUncounted};
 ghost use Rattle.stride_cli.specs.Looks.{BeforeLinking, greatest_looks};
-ghost use Rattle.stride_cli.specs.Telling.{OnDone, OnLogless, OnOrderless, OnReadFault, OnRefusal, OnWriteFault, RefusesNoLogs, RefusesNoMember, TellsBy};
-ghost use Rattle.stride_cli.specs.Words.{command_named, live_named};
+ghost use Rattle.stride_cli.specs.Settings.{AreInRange, limits_of};
+ghost use Rattle.stride_cli.specs.Telling.{OnDone, OnLogless, OnMemory, OnOrderless, OnReadFault, OnRefusal, OnWriteFault, RefusesNoLogs, RefusesNoMember, TellsBy};
+ghost use Rattle.stride_cli.specs.Words.{OfLine, live_named, offline_named};
 
 use crate::commands::live_report_of;
-use crate::offline_call::offline;
+use crate::input::unread;
+use crate::limits::Limits;
+use crate::offline_call::offline_by;
 use crate::status::Status;
 use crate::words::{Live, live_of};
+use command_words::{Refusal, Settings, read_words};
 use recorder::Gate;
 use std::alloc::Global;
 use std::sync::Wait;
 use std::sync::ledger::Ledger;
 use std::thread::Threads;
 use stride_base::limits::INPUT_LIMIT;
-use stride_base::{Failed, InputError, Sink, Source, Steps, put_all, read_all};
+use stride_base::{Failed, Sink, Source, Steps, put_all, read_all};
 
 // Does a live command, as `stride` says.
-fn live<R: Threads + Wait + Sync, S: Source, K: Sink, G: Gate, L: Ledger>(
+fn live_command<R: Threads + Wait + Sync, S: Source, K: Sink, G: Gate, L: Ledger>(
     rt: &R,
     alloc: Global,
     command: Live,
+    limits: Limits,
     source: &mut S,
     sink: &mut K,
     gate: &G,
     steps: &mut Steps<L>,
 ) -> Status
-    ensures promise { IsKept command (S.left source.old) (record { held = K.held sink.old; sink_faults = K.faults sink.old; source_faults = S.faults source.old; looks = steps.old }) (record { held = K.held sink.new; sink_faults = K.faults sink.new; source_faults = S.faults source.new; looks = steps.new }) result }
-    ensures answer { IfSome (S.left source.old) (λ bytes. TellsBy (AnswersLiveBytes command bytes) (K.held sink.old) (K.held sink.new) result) }
+    ensures promise { OnRun command (IsKept (limits_seen limits) (S.left source.old) (record { held = K.held sink.old; sink_faults = K.faults sink.old; source_faults = S.faults source.old; looks = steps.old }) (record { held = K.held sink.new; sink_faults = K.faults sink.new; source_faults = S.faults source.new; looks = steps.new }) result) }
+    ensures answer { IfSome (S.left source.old) (λ bytes. TellsBy (AnswersLiveBytes (limits_seen limits) command bytes) (K.held sink.old) (K.held sink.new) result) }
     ensures used { result ≡ Status.Usage → ⊥ }
 
     ensures untouched { OnRefusal result (sink.new ≡ sink.old) }
@@ -45,23 +52,60 @@ fn live<R: Threads + Wait + Sync, S: Source, K: Sink, G: Gate, L: Ledger>(
 
     ensures uncounted { OnUncounted (Some command) None (steps.new ≡ steps.old) }
     ensures early { BeforeLinking result (steps.new ≡ steps.old) }
-    ensures looks { IfSome (S.left source.old) (λ bytes. LiveLooks command bytes steps.old steps.new) }
+    ensures looks { IfSome (S.left source.old) (λ bytes. LiveLooks (limits_seen limits) command bytes steps.old steps.new) }
     ensures ceiling { steps.new ≤ steps.old + greatest_looks }
 {
     stride_isa::one_verdict();
     let bytes = match read_all(alloc, source, INPUT_LIMIT) {
         Ok(bytes) => bytes,
-        Err(InputError::ReadFault) => return Status::ReadFault,
-        Err(InputError::TooLong) => return Status::TooLong,
-        Err(InputError::NoMemory) => return Status::NoMemory,
+        Err(error) => return unread(error),
     };
-    let report = match live_report_of(rt, alloc, command, bytes, gate, steps) {
+    let report = match live_report_of(rt, alloc, command, limits, bytes, gate, steps) {
         Ok(report) => report,
         Err(refusal) => return refusal.into_status(),
     };
     match put_all(sink, report.as_slice()) {
         Ok(()) => Status::Done,
         Err(Failed) => Status::WriteFault,
+    }
+}
+
+// Does the command of settings that are in range, as `stride` says.
+fn stride_by<R: Threads + Wait + Sync, S: Source, K: Sink, G: Gate, L: Ledger>(
+    rt: &R,
+    alloc: Global,
+    settings: Settings,
+    source: &mut S,
+    sink: &mut K,
+    gate: &G,
+    steps: &mut Steps<L>,
+) -> Status
+    requires { AreInRange (limits_of settings) }
+    ensures promise { IsKeptBy settings (S.left source.old) (record { held = K.held sink.old; sink_faults = K.faults sink.old; source_faults = S.faults source.old; looks = steps.old }) (record { held = K.held sink.new; sink_faults = K.faults sink.new; source_faults = S.faults source.new; looks = steps.new }) result }
+    ensures answer { IfSome (S.left source.old) (λ bytes. TellsBy (AnswersLiveSettings bytes settings) (K.held sink.old) (K.held sink.new) result) }
+    ensures usage { (result ≡ Status.Usage) ↔ ((live_named settings.command ≡ None) × (offline_named settings.command ≡ None)) }
+    ensures unread { result ≡ Status.Usage → source.new ≡ source.old }
+
+    ensures untouched { OnRefusal result (sink.new ≡ sink.old) }
+    ensures end { OnDone result (IfSome (S.left source.new) (λ rest. rest ≡ [])) }
+    ensures members { OnOrderless (offline_named settings.command) (RefusesNoMember result) }
+    ensures logs { OnLogless (offline_named settings.command) (RefusesNoLogs result) }
+
+    ensures read_fault { OnReadFault result (Rose (S.faults source.old) (S.faults source.new)) }
+    ensures write_fault { OnWriteFault result (Rose (K.faults sink.old) (K.faults sink.new)) }
+    ensures counted { (S.faults source.old ≤ S.faults source.new) × (K.faults sink.old ≤ K.faults sink.new) }
+
+    ensures uncounted { OnUncounted (live_named settings.command) (offline_named settings.command) (steps.new ≡ steps.old) }
+    ensures early { BeforeLinking result (steps.new ≡ steps.old) }
+    ensures looks { IfSome (S.left source.old) (λ bytes. NamedLooks (limits_of settings) (live_named settings.command) (offline_named settings.command) bytes steps.old steps.new) }
+    ensures ceiling { steps.new ≤ steps.old + greatest_looks }
+{
+    match live_of(settings.command) {
+        Some(command) => {
+            let limits = Limits::of(settings);
+            live_command(rt, alloc, command, limits, source, sink, gate, steps)
+        }
+        None => offline_by(alloc, settings, source, sink, steps),
     }
 }
 
@@ -88,15 +132,17 @@ pub fn stride<R: Threads + Wait + Sync, S: Source, K: Sink, G: Gate, L: Ledger>(
     // An answer to the words and the bytes, but for a device's fault and want of memory: the status with its details, and the report,
     // whole where the command is done, or a prefix of it where it could not be put.
     ensures answer { IfSome (S.left source.old) (λ bytes. TellsBy (IsStrideAnswer (map (λ word. word.now) words.entry.now) bytes) (K.held sink.old) (K.held sink.new) result) }
-    ensures usage { (result ≡ Status.Usage) ↔ ((live_named (map (λ word. word.now) words.entry.now) ≡ None) × (command_named (map (λ word. word.now) words.entry.now) ≡ None)) }
+
+    // Exactly where the words are no line of the grammar, or one of a demonstration.
+    ensures usage { OnMemory result ((result ≡ Status.Usage) ↔ OfLine (map (λ word. word.now) words.entry.now) (λ settings. (live_named settings.command ≡ None) × (offline_named settings.command ≡ None))) }
     ensures unread { result ≡ Status.Usage → source.new ≡ source.old }
 
     ensures untouched { OnRefusal result (sink.new ≡ sink.old) }
     ensures end { OnDone result (IfSome (S.left source.new) (λ rest. rest ≡ [])) }
 
     // Only `follow` and `sim` refuse a member of an order, and only `infer` and `replay` refuse logs.
-    ensures members { OnOrderless (command_named (map (λ word. word.now) words.entry.now)) (RefusesNoMember result) }
-    ensures logs { OnLogless (command_named (map (λ word. word.now) words.entry.now)) (RefusesNoLogs result) }
+    ensures members { OfLine (map (λ word. word.now) words.entry.now) (λ settings. OnOrderless (offline_named settings.command) (RefusesNoMember result)) }
+    ensures logs { OfLine (map (λ word. word.now) words.entry.now) (λ settings. OnLogless (offline_named settings.command) (RefusesNoLogs result)) }
 
     // A fault is answered only where the device's count rose in this call.
     ensures read_fault { OnReadFault result (Rose (S.faults source.old) (S.faults source.new)) }
@@ -105,13 +151,15 @@ pub fn stride<R: Threads + Wait + Sync, S: Source, K: Sink, G: Gate, L: Ledger>(
 
     // The counter stands still but for the commands that link, and where these end before that. They take at most so many looks, by the
     // events of the input or of the recording, and by the limit of events where the source tells no bytes.
-    ensures uncounted { OnUncounted (live_named (map (λ word. word.now) words.entry.now)) (command_named (map (λ word. word.now) words.entry.now)) (steps.new ≡ steps.old) }
+    ensures uncounted { OfLine (map (λ word. word.now) words.entry.now) (λ settings. OnUncounted (live_named settings.command) (offline_named settings.command) (steps.new ≡ steps.old)) }
     ensures early { BeforeLinking result (steps.new ≡ steps.old) }
-    ensures looks { IfSome (S.left source.old) (λ bytes. NamedLooks (live_named (map (λ word. word.now) words.entry.now)) (command_named (map (λ word. word.now) words.entry.now)) bytes steps.old steps.new) }
+    ensures looks { OfLine (map (λ word. word.now) words.entry.now) (λ settings. IfSome (S.left source.old) (λ bytes. NamedLooks (limits_of settings) (live_named settings.command) (offline_named settings.command) bytes steps.old steps.new)) }
     ensures ceiling { steps.new ≤ steps.old + greatest_looks }
 {
-    match live_of(words) {
-        Some(command) => live(rt, alloc, command, source, sink, gate, steps),
-        None => offline(alloc, words, source, sink, steps),
+    command_words::one_reading();
+    match read_words(alloc, words) {
+        Ok(settings) => stride_by(rt, alloc, settings, source, sink, gate, steps),
+        Err(Refusal::Usage) => Status::Usage,
+        Err(Refusal::NoMemory) => Status::NoMemory,
     }
 }

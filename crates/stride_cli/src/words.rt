@@ -1,6 +1,8 @@
-//! The words of the command line.
-ghost use Rattle.std.specs.Prelude.{◌≡◌, map};
-ghost use Rattle.stride_cli.specs.Words.{command_named, command_with_name, live_named, live_with_name};
+//! The commands that the words can name.
+ghost use Rattle.std.specs.Prelude.{◌≡◌};
+ghost use Rattle.stride_cli.specs.Words.{live_named, offline_named};
+
+use command_words::Command as Named;
 
 /// What the program can be told to do.
 #[derive(Clone, Copy, Debug, PartialEq, Eq)]
@@ -30,47 +32,37 @@ pub enum Live {
     Bundle,
 }
 
-fn command_called(name: &str) -> Option<Command>
-    ensures { result ≡ command_with_name name.now }
+/// The command that is named, or `None` where its threads run beside each other. A demonstration isn't done yet.
+pub fn offline_of(named: Named) -> Option<Command>
+    ensures { result ≡ offline_named named }
 {
-    match name {
-        "check" => Some(Command::Check),
-        "follow" => Some(Command::Follow),
-        "sim" => Some(Command::Sim),
-        "show" => Some(Command::Show),
-        "upgrade" => Some(Command::Upgrade),
-        "infer" => Some(Command::Infer),
-        "replay" => Some(Command::Replay),
-        _ => None,
+    match named {
+        Named::Check => Some(Command::Check),
+        Named::Follow => Some(Command::Follow),
+        Named::Sim => Some(Command::Sim),
+        Named::Show => Some(Command::Show),
+        Named::Upgrade => Some(Command::Upgrade),
+        Named::Infer => Some(Command::Infer),
+        Named::Replay => Some(Command::Replay),
+        Named::Run | Named::Bundle => None,
+        Named::Demo { number: _, live: _ } => None,
     }
 }
 
-/// The command that the words name, or `None` where they name none.
-pub fn command_of(words: &[&str]) -> Option<Command>
-    ensures { result ≡ command_named (map (λ word. word.now) words.entry.now) }
+/// The live command that is named, or `None` where it starts no thread. A demonstration isn't done yet.
+pub fn live_of(named: Named) -> Option<Live>
+    ensures { result ≡ live_named named }
 {
-    match words {
-        [name] => command_called(name),
-        _ => None,
-    }
-}
-
-fn live_called(name: &str) -> Option<Live>
-    ensures { result ≡ live_with_name name.now }
-{
-    match name {
-        "run" => Some(Live::Run),
-        "bundle" => Some(Live::Bundle),
-        _ => None,
-    }
-}
-
-/// The live command that the words name, or `None` where they name none.
-pub fn live_of(words: &[&str]) -> Option<Live>
-    ensures { result ≡ live_named (map (λ word. word.now) words.entry.now) }
-{
-    match words {
-        [name] => live_called(name),
-        _ => None,
+    match named {
+        Named::Run => Some(Live::Run),
+        Named::Bundle => Some(Live::Bundle),
+        Named::Check
+        | Named::Follow
+        | Named::Sim
+        | Named::Show
+        | Named::Upgrade
+        | Named::Infer
+        | Named::Replay => None,
+        Named::Demo { number: _, live: _ } => None,
     }
 }

@@ -1,7 +1,8 @@
 //! `check`: a program in its canonical text.
 ghost use Rattle.std.specs.Prelude.{◌≤◌, length};
-ghost use Rattle.stride_cli.specs.Gives.{Gives};
-ghost use Rattle.stride_cli.specs.declared.words.Command.TheVariants.{Check};
+ghost use Rattle.assembler.specs.Canonical.{canonical};
+ghost use Rattle.stride_cli.specs.Answers.{AnswersText, done};
+ghost use Rattle.stride_cli.specs.Gives.{GivesBy};
 
 use crate::input::accept;
 use crate::refusal::Refusal;
@@ -13,7 +14,7 @@ use stride_base::limits::INPUT_LIMIT;
 /// The canonical text of the program that the bytes spell.
 pub fn check_text(alloc: Global, bytes: &[u8]) -> Result<List<u8>, Refusal>
     requires { length bytes.now ≤ INPUT_LIMIT }
-    ensures { Gives result Check bytes.now }
+    ensures { GivesBy result (AnswersText bytes.now (λ program. done (canonical program))) }
 {
     let program = accept(alloc, bytes)?;
     Ok(print_program(alloc, &program)?)

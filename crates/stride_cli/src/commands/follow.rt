@@ -2,13 +2,14 @@
 ghost use Rattle.std.specs.Prelude.{◌≡◌, ◌≤◌, length};
 ghost use Rattle.stride_cli.specs.Answers.{member_fault};
 ghost use Rattle.stride_cli.specs.Gives.{Gives};
+ghost use Rattle.stride_cli.specs.LimitsSeen.{limits_seen};
 ghost use Rattle.stride_cli.specs.Refusals.{of_replay};
 ghost use Rattle.stride_cli.specs.declared.words.Command.TheVariants.{Follow};
 
 use crate::input::read_input;
+use crate::limits::Limits;
 use crate::refusal::Refusal;
 use crate::reports::put_ends;
-use crate::settings::FUEL;
 use crate::status::MemberFault;
 use replayer::{ReplayError, replay};
 use std::alloc::Global;
@@ -44,13 +45,13 @@ pub fn refused_order(program: &Checked, order: &[u8], error: ReplayError) -> Ref
 }
 
 /// The transcript and the ends of the threads, where the bytes are a program with a schedule of it.
-pub fn follow_schedule(alloc: Global, bytes: &[u8]) -> Result<List<u8>, Refusal>
+pub fn follow_schedule(alloc: Global, limits: Limits, bytes: &[u8]) -> Result<List<u8>, Refusal>
     requires { length bytes.now ≤ INPUT_LIMIT }
-    ensures { Gives result Follow bytes.now }
+    ensures { Gives result (limits_seen limits) Follow bytes.now }
 {
     let input = read_input(alloc, bytes)?;
     let order = input.order.as_slice();
-    let played = match replay(alloc, &input.program, FUEL, order) {
+    let played = match replay(alloc, &input.program, limits.fuel, order) {
         Ok(played) => played,
         Err(error) => return Err(refused_order(&input.program, order, error)),
     };

@@ -1,8 +1,9 @@
 //! `infer`: the links of a bundle's reads, and the schedule of its events.
 ghost use Rattle.std.specs.Prelude.{◌≡◌, ◌+◌, ◌≤◌, length, IfErr};
-ghost use Rattle.stride_cli.specs.Gives.{Gives};
-ghost use Rattle.stride_cli.specs.Looks.{OnEarly, command_looks, greatest_looks};
-ghost use Rattle.stride_cli.specs.declared.words.Command.TheVariants.{Infer};
+ghost use Rattle.log_format.specs.Reading.{reading};
+ghost use Rattle.stride_cli.specs.Answers.{AnswersBundle, AnswersLinks};
+ghost use Rattle.stride_cli.specs.Gives.{GivesBy};
+ghost use Rattle.stride_cli.specs.Looks.{OnEarly, bundle_looks, greatest_looks, printing_looks};
 
 use crate::inferring::{order_events, rerun_bundle};
 use crate::refusal::Refusal;
@@ -19,9 +20,9 @@ pub fn infer_bundle<L: Ledger>(
     steps: &mut Steps<L>,
 ) -> Result<List<u8>, Refusal>
     requires { length bytes.items ≤ INPUT_LIMIT }
-    ensures answer { Gives result Infer bytes.items }
+    ensures answer { GivesBy result (AnswersBundle AnswersLinks (reading bytes.items)) }
     ensures early { IfErr result (λ refusal. OnEarly refusal (steps.new ≡ steps.old)) }
-    ensures looks { steps.new ≤ steps.old + command_looks Infer bytes.items }
+    ensures looks { steps.new ≤ steps.old + bundle_looks printing_looks (reading bytes.items) }
     ensures ceiling { steps.new ≤ steps.old + greatest_looks }
 {
     let rerun = rerun_bundle(alloc, bytes)?;

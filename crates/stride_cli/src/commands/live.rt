@@ -1,11 +1,13 @@
 //! The arm that calls a live command.
 ghost use Rattle.std.specs.Prelude.{◌≡◌, ◌+◌, ◌≤◌, length, IfErr, IfOk, None, Some};
 ghost use Rattle.stride_cli.specs.GivesLive.{GivesLive, IsRunOf, OnRun};
+ghost use Rattle.stride_cli.specs.LimitsSeen.{limits_seen};
 ghost use Rattle.stride_cli.specs.LiveLooks.{LiveLooks, OnUncounted};
 ghost use Rattle.stride_cli.specs.Looks.{OnEarly, greatest_looks};
 
 use crate::commands::bundle::bundle_program;
 use crate::commands::run::run_program;
+use crate::limits::Limits;
 use crate::refusal::Refusal;
 use crate::words::Live;
 use recorder::Gate;
@@ -21,20 +23,21 @@ pub fn live_report_of<R: Threads + Wait + Sync, G: Gate, L: Ledger>(
     rt: &R,
     alloc: Global,
     command: Live,
+    limits: Limits,
     bytes: List<u8>,
     gate: &G,
     steps: &mut Steps<L>,
 ) -> Result<List<u8>, Refusal>
     requires { length bytes.items ≤ INPUT_LIMIT }
-    ensures answer { GivesLive result command bytes.items }
-    ensures run { IfOk result (λ report. OnRun command (IsRunOf bytes.items report.items steps.old steps.new)) }
+    ensures answer { GivesLive result (limits_seen limits) command bytes.items }
+    ensures run { IfOk result (λ report. OnRun command (IsRunOf (limits_seen limits) bytes.items report.items steps.old steps.new)) }
     ensures early { IfErr result (λ refusal. OnEarly refusal (steps.new ≡ steps.old)) }
     ensures uncounted { OnUncounted (Some command) None (steps.new ≡ steps.old) }
-    ensures looks { LiveLooks command bytes.items steps.old steps.new }
+    ensures looks { LiveLooks (limits_seen limits) command bytes.items steps.old steps.new }
     ensures ceiling { steps.new ≤ steps.old + greatest_looks }
 {
     match command {
-        Live::Run => run_program(rt, alloc, bytes, gate, steps),
-        Live::Bundle => bundle_program(rt, alloc, bytes, gate),
+        Live::Run => run_program(rt, alloc, limits, bytes, gate, steps),
+        Live::Bundle => bundle_program(rt, alloc, limits, bytes, gate),
     }
 }

@@ -1,6 +1,7 @@
 //! The commands: one file a command, and the arm that calls it.
 ghost use Rattle.std.specs.Prelude.{◌≡◌, ◌+◌, ◌≤◌, length, IfErr};
 ghost use Rattle.stride_cli.specs.Gives.{Gives};
+ghost use Rattle.stride_cli.specs.LimitsSeen.{limits_seen};
 ghost use Rattle.stride_cli.specs.Looks.{OnEarly, OnUnlinking, command_looks, greatest_looks};
 
 mod bundle;
@@ -14,6 +15,7 @@ mod show;
 mod sim;
 mod upgrade;
 
+use crate::limits::Limits;
 use crate::refusal::Refusal;
 use crate::words::Command;
 use check::check_text;
@@ -33,20 +35,21 @@ use upgrade::upgrade_bundle;
 pub fn report_of<L: Ledger>(
     alloc: Global,
     command: Command,
+    limits: Limits,
     bytes: List<u8>,
     steps: &mut Steps<L>,
 ) -> Result<List<u8>, Refusal>
     requires { length bytes.items ≤ INPUT_LIMIT }
-    ensures answer { Gives result command bytes.items }
+    ensures answer { Gives result (limits_seen limits) command bytes.items }
     ensures early { IfErr result (λ refusal. OnEarly refusal (steps.new ≡ steps.old)) }
     ensures unlinking { OnUnlinking (Some command) (steps.new ≡ steps.old) }
-    ensures looks { steps.new ≤ steps.old + command_looks command bytes.items }
+    ensures looks { steps.new ≤ steps.old + command_looks (limits_seen limits) command bytes.items }
     ensures ceiling { steps.new ≤ steps.old + greatest_looks }
 {
     match command {
         Command::Check => check_text(alloc, bytes.as_slice()),
-        Command::Follow => follow_schedule(alloc, bytes.as_slice()),
-        Command::Sim => simulate(alloc, bytes.as_slice(), steps),
+        Command::Follow => follow_schedule(alloc, limits, bytes.as_slice()),
+        Command::Sim => simulate(alloc, limits, bytes.as_slice(), steps),
         Command::Show => show_bundle(alloc, bytes.as_slice()),
         Command::Upgrade => upgrade_bundle(alloc, bytes.as_slice()),
         Command::Infer => infer_bundle(alloc, bytes, steps),

@@ -1,9 +1,10 @@
 //! `show`: what a bundle holds.
 ghost use Rattle.std.specs.Prelude.{◌≡◌, ◌≤◌, ◌++◌, length, OnOk};
 ghost use Rattle.log_format.specs.Bundles.{bundled};
-ghost use Rattle.stride_cli.specs.Gives.{Gives};
+ghost use Rattle.log_format.specs.Reading.{reading};
+ghost use Rattle.stride_cli.specs.Answers.{shown};
+ghost use Rattle.stride_cli.specs.Gives.{GivesBy};
 ghost use Rattle.stride_cli.specs.Reports.{show_report};
-ghost use Rattle.stride_cli.specs.declared.words.Command.TheVariants.{Show};
 
 use crate::refusal::Refusal;
 use crate::reports::{put_counts, put_logs, put_text};
@@ -16,7 +17,7 @@ use stride_isa::limits::THREAD_LIMIT;
 /// The number of threads, the fuel, the logs and the text of the bundle that the bytes spell.
 pub fn show_bundle(alloc: Global, bytes: &[u8]) -> Result<List<u8>, Refusal>
     requires { length bytes.now ≤ INPUT_LIMIT }
-    ensures { Gives result Show bytes.now }
+    ensures { GivesBy result (λ answer. answer ≡ shown (reading bytes.now)) }
 {
     let bundle = decode(alloc, bytes)?;
     let mut report = List::new(alloc);

@@ -4,7 +4,6 @@ use Rattle.interleavings.specs.Following.{follow_all}
 use Rattle.log_format.specs.Bundles.{bundled, lists_of}
 use Rattle.thread_rerun.specs.Rerunning.{rerun_seen}
 use Rattle.stride_cli.specs.Answers.{AnswersLinks, AnswersRun}
-use Rattle.stride_cli.specs.declared.words.Command.TheVariants.{Infer, Replay}
 use Rattle.stride_cli.proofs.Bundles.{lent_refused, again_ok, rerun_refused}
 use Rattle.stride_cli.proofs.LeastRuns.{events_few}
 use Rattle.stride_cli.proofs.inferring.rerun_bundle.Goals as goal
@@ -14,14 +13,14 @@ returns-in_err-program-clause-infer c =
     let exact = rw c.as_slice-all.ensures at c.in_ok-bundle.ensures.exact in
     let p = err_from_is_err_and c.from_residual-in_err-program.result c.from_residual-in_err-program.ensures.1 in
     rw (p.1, p.2)
-    (lent_refused AnswersLinks c.args.bytes.items Infer (λ answer is. is) (bundled c.in_ok-bundle.bundle) c.as_slice-text.result.now c.in_err-program.field-0.0 exact c.as_slice-text.ensures c.in_err-program.ensures)
+    (lent_refused AnswersLinks c.args.bytes.items (bundled c.in_ok-bundle.bundle) c.as_slice-text.result.now c.in_err-program.field-0.0 exact c.as_slice-text.ensures c.in_err-program.ensures)
 
 pub returns-in_err-program-clause-replay : goal.returns-in_err-program-clause-replay
 returns-in_err-program-clause-replay c =
     let exact = rw c.as_slice-all.ensures at c.in_ok-bundle.ensures.exact in
     let p = err_from_is_err_and c.from_residual-in_err-program.result c.from_residual-in_err-program.ensures.1 in
     rw (p.1, p.2)
-    (lent_refused AnswersRun c.args.bytes.items Replay (λ answer is. is) (bundled c.in_ok-bundle.bundle) c.as_slice-text.result.now c.in_err-program.field-0.0 exact c.as_slice-text.ensures c.in_err-program.ensures)
+    (lent_refused AnswersRun c.args.bytes.items (bundled c.in_ok-bundle.bundle) c.as_slice-text.result.now c.in_err-program.field-0.0 exact c.as_slice-text.ensures c.in_err-program.ensures)
 
 pub returns-in_err-rerun-clause-infer : goal.returns-in_err-rerun-clause-infer
 returns-in_err-rerun-clause-infer c =
@@ -29,7 +28,7 @@ returns-in_err-rerun-clause-infer c =
     let p = err_from_is_err_and c.from_residual-in_err-rerun.result c.from_residual-in_err-rerun.ensures.1 in
     let accepted = rw c.as_slice-text.ensures at c.in_ok-program.ensures in
     rw (p.1, p.2)
-    (rerun_refused AnswersLinks c.args.bytes.items Infer (λ answer is. is) (bundled c.in_ok-bundle.bundle) c.in_ok-program.program c.in_err-rerun.field-0.0 exact accepted.0 accepted.1 c.in_err-rerun.ensures)
+    (rerun_refused AnswersLinks c.args.bytes.items (bundled c.in_ok-bundle.bundle) c.in_ok-program.program c.in_err-rerun.field-0.0 exact accepted.0 accepted.1 c.in_err-rerun.ensures)
 
 pub returns-in_err-rerun-clause-replay : goal.returns-in_err-rerun-clause-replay
 returns-in_err-rerun-clause-replay c =
@@ -37,7 +36,7 @@ returns-in_err-rerun-clause-replay c =
     let p = err_from_is_err_and c.from_residual-in_err-rerun.result c.from_residual-in_err-rerun.ensures.1 in
     let accepted = rw c.as_slice-text.ensures at c.in_ok-program.ensures in
     rw (p.1, p.2)
-    (rerun_refused AnswersRun c.args.bytes.items Replay (λ answer is. is) (bundled c.in_ok-bundle.bundle) c.in_ok-program.program c.in_err-rerun.field-0.0 exact accepted.0 accepted.1 c.in_err-rerun.ensures)
+    (rerun_refused AnswersRun c.args.bytes.items (bundled c.in_ok-bundle.bundle) c.in_ok-program.program c.in_err-rerun.field-0.0 exact accepted.0 accepted.1 c.in_err-rerun.ensures)
 
 pub returns-clause-rerun : goal.returns-clause-rerun
 returns-clause-rerun c =

@@ -4,6 +4,7 @@ use Rattle.stride_cli.proofs.laws.bundles_are_replayed.Goals as goal
 pub returns : goal.returns
 returns c =
     let laws : Laws = record {
+      reading = c.one_reading.ensures;
       verdict = c.one_verdict.ensures;
       read = c.spelling_is_read.ensures;
       recorded = record {

@@ -4,6 +4,7 @@ use Rattle.stride_cli.proofs.laws.one_answer.Goals as goal
 pub returns : goal.returns
 returns c =
     one_answer_by
+    c.one_reading.ensures
     (record {
       one_refusal = c.one_first_refusal.ensures;
       one_linking = c.one_linking.ensures;

@@ -1,12 +1,37 @@
-use Rattle.std.proofs.Common.{◌∙◌, sym}
-use Rattle.stride_cli.proofs.Logless.{told_no_logs}
-use Rattle.stride_cli.proofs.Members.{told_no_member}
+use Rattle.std.proofs.Common.{◌≡◌, ◌≤◌, ◌+◌, IfSome, None}
+use Rattle.stride_cli.specs.Answers.{AnswersSettings}
+use Rattle.stride_cli.specs.Looks.{OnUnlinking, most_looks}
+use Rattle.stride_cli.specs.Settings.{limits_of}
+use Rattle.stride_cli.specs.Telling.{OnLogless, OnOrderless, RefusesNoLogs, RefusesNoMember}
+use Rattle.stride_cli.specs.Words.{offline_named}
+use Rattle.stride_cli.proofs.Readings.{in_range, no_line_answer, no_line_refused, of_reading, refused_line}
 use Rattle.stride_cli.proofs.offline_call.offline.Goals as goal
 
-pub returns-in-Err-clause-members : goal.returns-in-Err-clause-members
-returns-in-Err-clause-members g c =
-    told_no_member _ c.in-Some.command c.in-Ok.bytes.items c.in-Err.refusal c.into_status.result (sym c.command_of.ensures ∙ c.in-Some.is) c.into_status.ensures c.in-Err.ensures.answer
+pub offline_by-requires : goal.offline_by-requires
+offline_by-requires g c = in_range _ c.in-Ok.settings c.in-Ok.ensures
 
-pub returns-in-Err-clause-logs : goal.returns-in-Err-clause-logs
-returns-in-Err-clause-logs g c =
-    told_no_logs _ c.in-Some.command c.in-Ok.bytes.items c.in-Err.refusal c.into_status.result (sym c.command_of.ensures ∙ c.in-Some.is) c.into_status.ensures c.in-Err.ensures.answer
+pub returns-in-Ok-clause-usage : goal.returns-in-Ok-clause-usage
+returns-in-Ok-clause-usage g c =
+    refused_line c.one_reading.ensures _ c.in-Ok.settings (λ settings. offline_named settings.command ≡ None) c.offline_by.result c.in-Ok.ensures c.offline_by.ensures.usage
+
+pub returns-in-Ok-clause-members : goal.returns-in-Ok-clause-members
+returns-in-Ok-clause-members g c =
+    of_reading c.one_reading.ensures _ (λ settings. OnOrderless (offline_named settings.command) (RefusesNoMember c.offline_by.result)) c.in-Ok.settings c.in-Ok.ensures c.offline_by.ensures.members
+
+pub returns-in-Ok-clause-logs : goal.returns-in-Ok-clause-logs
+returns-in-Ok-clause-logs g c =
+    of_reading c.one_reading.ensures _ (λ settings. OnLogless (offline_named settings.command) (RefusesNoLogs c.offline_by.result)) c.in-Ok.settings c.in-Ok.ensures c.offline_by.ensures.logs
+
+pub returns-in-Ok-clause-uncounted : goal.returns-in-Ok-clause-uncounted
+returns-in-Ok-clause-uncounted g c =
+    of_reading c.one_reading.ensures _ (λ settings. OnUnlinking (offline_named settings.command) (c.offline_by.new.steps ≡ c.args.steps.now)) c.in-Ok.settings c.in-Ok.ensures c.offline_by.ensures.uncounted
+
+pub returns-in-Ok-clause-looks : goal.returns-in-Ok-clause-looks
+returns-in-Ok-clause-looks g c =
+    of_reading c.one_reading.ensures _ (λ settings. IfSome (g.S.Source.left c.args.source.now) (λ bytes. c.offline_by.new.steps ≤ c.args.steps.now + most_looks (limits_of settings) (offline_named settings.command) bytes)) c.in-Ok.settings c.in-Ok.ensures c.offline_by.ensures.looks
+
+pub returns-in-Err-Usage-clause-answer : goal.returns-in-Err-Usage-clause-answer
+returns-in-Err-Usage-clause-answer g c = no_line_answer AnswersSettings _ (g.S.Source.left c.args.source.now) (rw c.in-Err-Usage.field-0-is at c.in-Err-Usage.ensures)
+
+pub returns-in-Err-Usage-clause-usage : goal.returns-in-Err-Usage-clause-usage
+returns-in-Err-Usage-clause-usage g c = no_line_refused _ (λ settings. offline_named settings.command ≡ None) (rw c.in-Err-Usage.field-0-is at c.in-Err-Usage.ensures)

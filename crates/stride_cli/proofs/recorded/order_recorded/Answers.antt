@@ -9,4 +9,4 @@ unreachable-requires g c =
       linked = c.histories_are_linked.ensures;
       ordered = c.histories_are_ordered.ensures;
     } in
-    not_refused laws c.args.program.now c.requires.0 c.args.traces.now c.requires.1 _ (rw c.in-Err-NoLinkage.field-0-is at c.in-Err-NoLinkage.ensures.refused)
+    not_refused laws c.requires.0 c.args.program.now c.requires.1.0 c.args.traces.now c.requires.1.1 _ (rw c.in-Err-NoLinkage.field-0-is at c.in-Err-NoLinkage.ensures.refused)

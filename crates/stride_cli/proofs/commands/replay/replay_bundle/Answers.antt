@@ -20,7 +20,7 @@ pub returns-clause-answer : goal.returns-clause-answer
 returns-clause-answer g c =
     let rerun = c.in_ok-rerun.rerun in
     let inferred : Inferred = record { links = c.in_ok-order.ensures.scheduled.0; schedule = c.in_ok-order.order.items } in
-    let report : c.put_run.new.report.items ≡ schedule_section inferred.schedule ++ run_section (seen c.in_ok-played.played) =
-    rw (c.in_ok-put_run.ensures, c.in_ok-put_schedule.ensures, c.new-report.ensures.items, c.as_slice-schedule.ensures) refl in
+    let report : c.put_replay.new.report.items ≡ schedule_section inferred.schedule ++ run_section (seen c.in_ok-played.played) =
+    rw (c.in_ok-put_replay.ensures, c.new-report.ensures.items, c.as_slice-schedule.ensures) refl in
     let P : List ℕ → Type 0 = λ schedule. IsRunOf rerun.program rerun.fuel schedule (seen c.in_ok-played.played) in
-    replay_done c.args.bytes.items rerun.program rerun.fuel rerun.traces inferred (seen c.in_ok-played.played) c.put_run.new.report.items c.in_ok-rerun.ensures.rerun c.in_ok-order.ensures.scheduled.1 (subst P c.as_slice-schedule.ensures c.in_ok-played.ensures.run) report
+    replay_done c.args.bytes.items rerun.program rerun.fuel rerun.traces inferred (seen c.in_ok-played.played) c.put_replay.new.report.items c.in_ok-rerun.ensures.rerun c.in_ok-order.ensures.scheduled.1 (subst P c.as_slice-schedule.ensures c.in_ok-played.ensures.run) report
