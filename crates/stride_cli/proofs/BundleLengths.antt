@@ -10,7 +10,7 @@ use Rattle.assembler.specs.Canonical.{canonical_limit}
 use Rattle.interleavings.specs.declared.event.LogEntry.{LogEntry}
 use Rattle.interleavings.specs.declared.event.LogEntry.TheVariants.{Read, Write, Update, Enter}
 use Rattle.log_format.specs.Bundles.{Bundled, IsEntryOf, IsInRange, lists_of}
-use Rattle.log_format.specs.Spelling.{bound_after, entries_bytes, entry_bytes, groups, log_bytes, logs_bytes, number_bytes, spelling, step_between, text_bytes}
+use Rattle.log_format.specs.Spelling.{bound_after, entries_bytes, entry_bytes, groups, log_bytes, logs_bytes, spelling, step_between, text_bytes}
 use Rattle.log_format.specs.declared.version.Version.TheVariants.{Two}
 
 by_size : (most n : ℕ) (small : Bool) (rest : List ℕ) → length rest ≤ suc most → length (cond small (n ∷ []) ((128 + n % 128) ∷ rest)) ≤ suc (suc most)
@@ -67,7 +67,7 @@ entry_short before (Read bound value) small is =
 entry_short before (Write number) small is = let one = five number (omega (arith, is)) in omega (arith, one)
 entry_short before (Enter turn) small is = let one = five turn (omega (arith, is)) in omega (arith, one)
 entry_short before (Update number old) small is =
-    let below = is.1.0 in
+    let below = is.1 in
     let both = two_short (groups 9 old) (groups 9 number) (groups_short 9 old) (five number (omega (arith, below))) in
     omega (arith, both)
 

@@ -3,8 +3,8 @@ use Rattle.std.proofs.Common.{◌≡◌, ℕ, List, Option, Some, None, Result, 
 use Rattle.stride_isa.specs.Faults.{Fault}
 use Rattle.stride_isa.specs.Listing.{Listing}
 use Rattle.sc_machine.specs.Machine.{Machine}
-use Rattle.sc_machine.specs.Schedule.{refused_place, replayed}
-use Rattle.interleavings.specs.Driving.{driven, stranger}
+use Rattle.sc_machine.specs.Schedule.{replayed}
+use Rattle.interleavings.specs.Driving.{stranger}
 use Rattle.interleavings.specs.Recording.{Recording}
 use Rattle.log_format.specs.Bundles.{Bundled}
 use Rattle.log_format.specs.declared.format_error.FormatKind.{FormatKind}
@@ -18,7 +18,7 @@ use Rattle.stride_cli.specs.declared.status.Status.{Status}
 use Rattle.stride_cli.specs.declared.status.Status.TheVariants.{Bundle, Diverges, Done, NoLinkage, NotEnabled, Program}
 use Rattle.stride_cli.specs.declared.words.Command.{Command}
 use Rattle.stride_cli.specs.declared.words.Command.TheVariants.{Check, Demo, Follow, Infer, Replay, Show, Sim, Upgrade}
-use Rattle.stride_cli.specs.Answers.{Answer, AnswersInput, AnswersOrder, AnswersProgram, AnswersRecorded, AnswersSimulated, AnswersSpelled, AnswersVerdict, done, followed, judged, order_of, played, program_part, refused, shown, upgraded, with_order}
+use Rattle.stride_cli.specs.Answers.{Answer, AnswersInput, AnswersOrder, AnswersProgram, AnswersRecorded, AnswersSimulated, AnswersSpelled, AnswersVerdict, followed, judged, order_of, played, program_part, refused, shown, upgraded, with_order}
 use Rattle.stride_cli.specs.Gives.{Refuses}
 use Rattle.stride_cli.specs.Refusals.{status_of}
 use Rattle.stride_cli.specs.Settings.{Limits}

@@ -1,7 +1,7 @@
 -- What the words of a line set, and what is answered to them.
 use Rattle.std.proofs.Common.{◌≡◌, ◌↔◌, ◌≤◌, inl, inr, ℕ, List, [], ◌∷◌, Option, Some, None, IfSome, refl, subst, arith, unwrap_or}
 use Rattle.command_words.specs.Laws.{OneReading}
-use Rattle.command_words.specs.Words.{IsLine, Sets, Setting, Word, fuel, patience, form, given}
+use Rattle.command_words.specs.Words.{IsLine, Sets, Word, fuel, patience, form, given}
 use Rattle.command_words.specs.declared.settings.Settings.{Settings}
 use Rattle.stride_cli.specs.declared.status.Status.{Status}
 use Rattle.stride_cli.specs.declared.status.Status.TheVariants.{Done, Usage, ReadFault, TooLong, Program, Bundle, Diverges, NoLinkage, NotEnabled, WriteFault, NoMemory}
@@ -59,3 +59,11 @@ no_line_refused words Refused none = ((λ e settings line. absurd (none settings
 pub no_line_answer : (Answers : List ℕ → Settings → Answer → Type 0) (words : List Word) (left : Option (List ℕ)) → IsNoLine words → IfSome left (λ bytes. AnswersWords (Answers bytes) words (refused Usage))
 no_line_answer Answers words None none = tt
 no_line_answer Answers words (Some bytes) none = inr (none, refl)
+
+-- a line's call is refused by no words
+pub line_done : (words : List Word) (settings : Settings) (status : Status) → IsLine words settings → (status ≡ Usage → ⊥) → OnMemory status ((status ≡ Usage) ↔ IsNoLine words)
+line_done words settings status line used = on_memory status ((λ is. absurd (used is)), (λ none. absurd (none settings line)))
+
+-- and words that are none are
+pub no_line_usage : (words : List Word) → IsNoLine words → (Usage ≡ Usage) ↔ IsNoLine words
+no_line_usage words none = ((λ _. none), (λ _. refl))

@@ -1,7 +1,6 @@
 -- The answer of `replay` to a bundle whose events have an order, and that each turn of this order can be taken.
-use Rattle.std.proofs.Common.{◌≡◌, ◌∙◌, ◌≤◌, ◌++◌, ℕ, List, Some, sym, ap, subst, arith}
+use Rattle.std.proofs.Common.{◌≡◌, ◌∙◌, ◌++◌, ℕ, List, sym, ap, subst}
 use Rattle.stride_isa.specs.Listing.{Listing}
-use Rattle.sc_machine.specs.Machine.{Machine}
 use Rattle.sc_machine.specs.Schedule.{replayed}
 use Rattle.interleavings.specs.declared.event.LogEntry.{LogEntry}
 use Rattle.interleavings.specs.Following.{follow_all}
@@ -13,7 +12,7 @@ use Rattle.stride_cli.specs.Again.{IsRunAgain}
 use Rattle.stride_cli.specs.Answers.{AnswersBundle, AnswersRun, done}
 use Rattle.stride_cli.specs.Bundles.{IsRerun}
 use Rattle.stride_cli.specs.Inferring.{Inferred, IsInferredOf, Ordered}
-use Rattle.stride_cli.specs.Reports.{replay_report, schedule_section}
+use Rattle.stride_cli.specs.Reports.{schedule_section}
 use Rattle.stride_cli.specs.Runs.{run_section}
 use Rattle.stride_cli.proofs.Bundles.{to_events}
 use Rattle.stride_cli.proofs.LeastRuns.{least_runs}

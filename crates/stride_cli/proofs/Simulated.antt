@@ -26,7 +26,7 @@ use Rattle.event_order.specs.Laws.{ExtensionsAreWhole}
 use Rattle.stride_cli.proofs.RecordedRuns.{found_within}
 use Rattle.stride_cli.specs.Playing.{IsPlayed, TellsLogs, TellsSummary}
 use Rattle.stride_cli.specs.Refusals.{of_drive}
-use Rattle.stride_cli.specs.Reports.{halted_count, links_section, logs_section, schedule_section, sim_report, summary_lines}
+use Rattle.stride_cli.specs.Reports.{halted_count, links_section, logs_section, schedule_section, summary_lines}
 use Rattle.stride_cli.specs.Runs.{run_section}
 use Rattle.stride_cli.specs.Settings.{Limits}
 use Rattle.stride_cli.proofs.Bundles.{only_programs, unaccepted}

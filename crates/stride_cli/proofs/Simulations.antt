@@ -1,5 +1,5 @@
 -- An order that names threads of a valid program alone has an answer of `sim`, which is the run of its recording.
-use Rattle.std.proofs.Common.{◌≡◌, ◌∙◌, ℕ, ◌≤◌, List, Option, Some, None, Result, Ok, Err, refl, sym, ap, subst, arith, length}
+use Rattle.std.proofs.Common.{◌≡◌, ℕ, ◌≤◌, List, Option, Some, None, Result, Ok, Err, refl, sym, subst, length}
 use Rattle.stride_isa.specs.Faults.{Fault, IsVerdict}
 use Rattle.stride_isa.specs.Laws.{HasVerdict}
 use Rattle.stride_isa.specs.Listing.{Listing}

@@ -1,5 +1,5 @@
 -- What `sim` is done with is the run of a recording.
-use Rattle.std.proofs.Common.{◌≡◌, ◌∙◌, ℕ, ◌≤◌, Bool, true, false, List, Option, Some, None, Result, Ok, Err, refl, sym, ap, subst, arith, length, nat_lt}
+use Rattle.std.proofs.Common.{◌≡◌, ◌∙◌, ℕ, ◌≤◌, Bool, true, false, List, Option, Some, None, Result, Ok, Err, refl, sym, ap, subst, length, nat_lt}
 use Rattle.std.specs.Bool.{MatchBool}
 use Rattle.stride_base.specs.declared.limits.TheConstants.{INPUT_LIMIT}
 use Rattle.stride_isa.specs.Faults.{Fault, IsVerdict}
@@ -7,7 +7,7 @@ use Rattle.stride_isa.specs.Listing.{Listing}
 use Rattle.stride_isa.specs.Validity.{IsValid}
 use Rattle.assembler.specs.Programs.{LineFault, spelled}
 use Rattle.interleavings.specs.Driving.{driven, stranger}
-use Rattle.interleavings.specs.Following.{Divergence, Followed, follow_all}
+use Rattle.interleavings.specs.Following.{Divergence, Followed}
 use Rattle.interleavings.specs.Laws.{DrivenIsFollowed}
 use Rattle.command_words.specs.Laws.{OneReading}
 use Rattle.event_order.specs.Laws.{ExtensionsAreRuns}
@@ -17,7 +17,7 @@ use Rattle.stride_cli.specs.declared.status.Status.TheVariants.{Done, NotEnabled
 use Rattle.stride_cli.specs.declared.words.Command.{Command}
 use Rattle.stride_cli.specs.declared.words.Command.TheVariants.{Sim}
 use Rattle.stride_cli.specs.Answers.{Answer, AnswersBy, AnswersSettings, AnswersInput, AnswersOrder, AnswersProgram, AnswersRecorded, AnswersRecording, AnswersSimulated, AnswersVerdict, done, order_of, program_part, refused, setting_of}
-use Rattle.stride_cli.specs.Inferring.{Inferred, IsInferredBy, Ordered}
+use Rattle.stride_cli.specs.Inferring.{IsInferredBy, Ordered}
 use Rattle.stride_cli.specs.Laws.{IsSimulated, SimulationsAreRuns}
 use Rattle.stride_cli.specs.Reports.{sim_report}
 use Rattle.stride_cli.specs.Settings.{Limits, limits_of}

@@ -134,6 +134,8 @@ pub fn stride<R: Threads + Wait + Sync, S: Source, K: Sink, G: Gate, L: Ledger>(
     // An answer to the words and the bytes, but for a device's fault and want of memory: the status with its details, and the report,
     // whole where the command is done, or a prefix of it where it could not be put.
     ensures answer { IfSome (S.left source.old) (λ bytes. TellsBy (IsStrideAnswer (map (λ word. word.now) words.entry.now) bytes) (K.held sink.old) (K.held sink.new) result) }
+
+    // Exactly where the words are no line of the grammar.
     ensures usage { OnMemory result ((result ≡ Status.Usage) ↔ IsNoLine (map (λ word. word.now) words.entry.now)) }
     ensures unread { result ≡ Status.Usage → source.new ≡ source.old }
 

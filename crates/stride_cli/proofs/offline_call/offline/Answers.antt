@@ -1,9 +1,10 @@
-use Rattle.std.proofs.Common.{◌≡◌, ◌≤◌, ◌+◌, IfSome, None}
+use Rattle.std.specs.Bool.{MatchBool}
+use Rattle.std.proofs.Common.{[], ◌≡◌, ◌≤◌, ◌+◌, IfSome, None}
 use Rattle.stride_cli.specs.Answers.{AnswersSettings}
 use Rattle.stride_cli.specs.Looks.{OnUnlinking, most_looks}
 use Rattle.stride_cli.specs.Settings.{limits_of}
-use Rattle.stride_cli.specs.Telling.{OnLogless, OnOrderless, RefusesNoLogs, RefusesNoMember}
-use Rattle.stride_cli.specs.Words.{offline_named}
+use Rattle.stride_cli.specs.Telling.{OnDone, OnLogless, OnOrderless, RefusesNoLogs, RefusesNoMember}
+use Rattle.stride_cli.specs.Words.{IsNoLine, named_reads, offline_named}
 use Rattle.stride_cli.proofs.Readings.{in_range, no_line_answer, no_line_refused, of_reading, refused_line}
 use Rattle.stride_cli.proofs.offline_call.offline.Goals as goal
 
@@ -13,6 +14,10 @@ offline_by-requires g c = in_range _ c.in-Ok.settings c.in-Ok.ensures
 pub returns-in-Ok-clause-usage : goal.returns-in-Ok-clause-usage
 returns-in-Ok-clause-usage g c =
     refused_line c.one_reading.ensures _ c.in-Ok.settings (λ settings. offline_named settings.command ≡ None) c.offline_by.result c.in-Ok.ensures c.offline_by.ensures.usage
+
+pub returns-in-Ok-clause-end : goal.returns-in-Ok-clause-end
+returns-in-Ok-clause-end g c =
+    of_reading c.one_reading.ensures _ (λ settings. MatchBool (named_reads None (offline_named settings.command)) (OnDone c.offline_by.result (IfSome (g.S.Source.left c.offline_by.new.source) (λ rest. rest ≡ []))) (c.offline_by.new.source ≡ c.args.source.now)) c.in-Ok.settings c.in-Ok.ensures c.offline_by.ensures.end
 
 pub returns-in-Ok-clause-members : goal.returns-in-Ok-clause-members
 returns-in-Ok-clause-members g c =
@@ -31,7 +36,12 @@ returns-in-Ok-clause-looks g c =
     of_reading c.one_reading.ensures _ (λ settings. IfSome (g.S.Source.left c.args.source.now) (λ bytes. c.offline_by.new.steps ≤ c.args.steps.now + most_looks (limits_of settings) (offline_named settings.command) bytes)) c.in-Ok.settings c.in-Ok.ensures c.offline_by.ensures.looks
 
 pub returns-in-Err-Usage-clause-answer : goal.returns-in-Err-Usage-clause-answer
-returns-in-Err-Usage-clause-answer g c = no_line_answer AnswersSettings _ (g.S.Source.left c.args.source.now) c.in-Err-Usage.ensures
+returns-in-Err-Usage-clause-answer g c = no_line_answer AnswersSettings _ (g.S.Source.left c.args.source.now) (rw c.in-Err-Usage.field-0-is at c.in-Err-Usage.ensures)
 
 pub returns-in-Err-Usage-clause-usage : goal.returns-in-Err-Usage-clause-usage
-returns-in-Err-Usage-clause-usage g c = no_line_refused _ (λ settings. offline_named settings.command ≡ None) c.in-Err-Usage.ensures
+returns-in-Err-Usage-clause-usage g c = no_line_refused _ (λ settings. offline_named settings.command ≡ None) (rw c.in-Err-Usage.field-0-is at c.in-Err-Usage.ensures)
+
+pub returns-in-Err-Usage-clause-end : goal.returns-in-Err-Usage-clause-end
+returns-in-Err-Usage-clause-end g c =
+    let none : IsNoLine _ = rw c.in-Err-Usage.field-0-is at c.in-Err-Usage.ensures in
+    λ settings line. absurd (none settings line)

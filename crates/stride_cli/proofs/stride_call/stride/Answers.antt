@@ -1,15 +1,16 @@
-use Rattle.std.proofs.Common.{◌≡◌, IfSome, None}
-use Rattle.stride_cli.specs.Headline.{IsKeptBy, World}
+use Rattle.std.proofs.Common.{◌≡◌, [], IfSome}
+use Rattle.std.specs.Bool.{MatchBool}
+use Rattle.stride_cli.specs.Headline.{IsDemoKeptBy, IsKeptBy, World}
 use Rattle.stride_cli.specs.LiveAnswers.{AnswersLiveSettings}
 use Rattle.stride_cli.specs.LiveLooks.{NamedLooks, OnUncounted}
 use Rattle.stride_cli.specs.Settings.{limits_of}
-use Rattle.stride_cli.specs.Telling.{OnLogless, OnOrderless, RefusesNoLogs, RefusesNoMember}
-use Rattle.stride_cli.specs.Words.{live_named, offline_named}
-use Rattle.stride_cli.proofs.Readings.{in_range, no_line_answer, no_line_refused, of_reading, refused_line}
+use Rattle.stride_cli.specs.Telling.{OnDone, OnLogless, OnOrderless, RefusesNoLogs, RefusesNoMember}
+use Rattle.stride_cli.specs.Words.{IsNoLine, live_named, named_reads, offline_named}
+use Rattle.stride_cli.proofs.Readings.{in_range, line_done, no_line_answer, no_line_usage, of_reading}
 use Rattle.stride_cli.proofs.stride_call.stride.Goals as goal
 
 pub stride_by-requires-after_bounds : goal.stride_by-requires-after_bounds
-stride_by-requires-after_bounds g c = in_range _ c.in-Ok.settings c.in-Ok.ensures
+stride_by-requires-after_bounds g c κs within = in_range _ c.in-Ok.settings c.in-Ok.ensures
 
 pub returns-in-Ok-clause-headline : goal.returns-in-Ok-clause-headline
 returns-in-Ok-clause-headline g c =
@@ -17,9 +18,18 @@ returns-in-Ok-clause-headline g c =
     let after : World = record { held = g.K.Sink.held c.stride_by.new.sink; sink_faults = g.K.Sink.faults c.stride_by.new.sink; source_faults = g.S.Source.faults c.stride_by.new.source; looks = c.stride_by.new.steps } in
     of_reading c.one_reading.ensures _ (λ settings. IsKeptBy settings (g.S.Source.left c.args.source.now) before after c.stride_by.result) c.in-Ok.settings c.in-Ok.ensures c.stride_by.ensures.promise
 
+pub returns-in-Ok-clause-demo_headline : goal.returns-in-Ok-clause-demo_headline
+returns-in-Ok-clause-demo_headline g c =
+    let before : World = record { held = g.K.Sink.held c.args.sink.now; sink_faults = g.K.Sink.faults c.args.sink.now; source_faults = g.S.Source.faults c.args.source.now; looks = c.args.steps.now } in
+    let after : World = record { held = g.K.Sink.held c.stride_by.new.sink; sink_faults = g.K.Sink.faults c.stride_by.new.sink; source_faults = g.S.Source.faults c.stride_by.new.source; looks = c.stride_by.new.steps } in
+    of_reading c.one_reading.ensures _ (λ settings. IsDemoKeptBy settings before after c.stride_by.result) c.in-Ok.settings c.in-Ok.ensures c.stride_by.ensures.demo_promise
+
 pub returns-in-Ok-clause-usage : goal.returns-in-Ok-clause-usage
-returns-in-Ok-clause-usage g c =
-    refused_line c.one_reading.ensures _ c.in-Ok.settings (λ settings. (live_named settings.command ≡ None) × (offline_named settings.command ≡ None)) c.stride_by.result c.in-Ok.ensures c.stride_by.ensures.usage
+returns-in-Ok-clause-usage g c = line_done _ c.in-Ok.settings c.stride_by.result c.in-Ok.ensures c.stride_by.ensures.used
+
+pub returns-in-Ok-clause-end : goal.returns-in-Ok-clause-end
+returns-in-Ok-clause-end g c =
+    of_reading c.one_reading.ensures _ (λ settings. MatchBool (named_reads (live_named settings.command) (offline_named settings.command)) (OnDone c.stride_by.result (IfSome (g.S.Source.left c.stride_by.new.source) (λ rest. rest ≡ []))) (c.stride_by.new.source ≡ c.args.source.now)) c.in-Ok.settings c.in-Ok.ensures c.stride_by.ensures.end
 
 pub returns-in-Ok-clause-members : goal.returns-in-Ok-clause-members
 returns-in-Ok-clause-members g c =
@@ -38,10 +48,22 @@ returns-in-Ok-clause-looks g c =
     of_reading c.one_reading.ensures _ (λ settings. IfSome (g.S.Source.left c.args.source.now) (λ bytes. NamedLooks (limits_of settings) (live_named settings.command) (offline_named settings.command) bytes c.args.steps.now c.stride_by.new.steps)) c.in-Ok.settings c.in-Ok.ensures c.stride_by.ensures.looks
 
 pub returns-in-Err-Usage-clause-headline : goal.returns-in-Err-Usage-clause-headline
-returns-in-Err-Usage-clause-headline g c = λ settings line. absurd (c.in-Err-Usage.ensures settings line)
+returns-in-Err-Usage-clause-headline g c =
+    let none : IsNoLine _ = rw c.in-Err-Usage.field-0-is at c.in-Err-Usage.ensures in
+    λ settings line. absurd (none settings line)
 
 pub returns-in-Err-Usage-clause-answer : goal.returns-in-Err-Usage-clause-answer
-returns-in-Err-Usage-clause-answer g c = no_line_answer AnswersLiveSettings _ (g.S.Source.left c.args.source.now) c.in-Err-Usage.ensures
+returns-in-Err-Usage-clause-answer g c = no_line_answer AnswersLiveSettings _ (g.S.Source.left c.args.source.now) (rw c.in-Err-Usage.field-0-is at c.in-Err-Usage.ensures)
+
+pub returns-in-Err-Usage-clause-demo_headline : goal.returns-in-Err-Usage-clause-demo_headline
+returns-in-Err-Usage-clause-demo_headline g c =
+    let none : IsNoLine _ = rw c.in-Err-Usage.field-0-is at c.in-Err-Usage.ensures in
+    λ settings line. absurd (none settings line)
 
 pub returns-in-Err-Usage-clause-usage : goal.returns-in-Err-Usage-clause-usage
-returns-in-Err-Usage-clause-usage g c = no_line_refused _ (λ settings. (live_named settings.command ≡ None) × (offline_named settings.command ≡ None)) c.in-Err-Usage.ensures
+returns-in-Err-Usage-clause-usage g c = no_line_usage _ (rw c.in-Err-Usage.field-0-is at c.in-Err-Usage.ensures)
+
+pub returns-in-Err-Usage-clause-end : goal.returns-in-Err-Usage-clause-end
+returns-in-Err-Usage-clause-end g c =
+    let none : IsNoLine _ = rw c.in-Err-Usage.field-0-is at c.in-Err-Usage.ensures in
+    λ settings line. absurd (none settings line)

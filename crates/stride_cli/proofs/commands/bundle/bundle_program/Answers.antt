@@ -2,7 +2,7 @@ use Rattle.std.proofs.Common.{refl}
 use Rattle.std.proofs.lemmas.Result.{err_from_is_err_and}
 use Rattle.stride_cli.specs.LimitsSeen.{limits_seen}
 use Rattle.stride_cli.specs.declared.words.Live.TheVariants.{Bundle as Bundling}
-use Rattle.stride_cli.proofs.LivePrograms.{lent_refused, to_program}
+use Rattle.stride_cli.proofs.LivePrograms.{lent_refused}
 use Rattle.stride_cli.proofs.commands.bundle.bundle_program.Goals as goal
 
 pub returns-in_err-program : goal.returns-in_err-program

@@ -5,7 +5,7 @@ use Rattle.stride_cli.specs.Inferring.{Inferred}
 use Rattle.stride_cli.specs.LimitsSeen.{limits_seen}
 use Rattle.stride_cli.specs.Reports.{schedule_section}
 use Rattle.stride_cli.specs.Runs.{run_section}
-use Rattle.stride_cli.proofs.RecordedRuns.{logged_steps, run_found, run_looks}
+use Rattle.stride_cli.proofs.RecordedRuns.{run_found, run_looks}
 use Rattle.stride_cli.proofs.commands.run.report_recording.Goals as goal
 
 pub returns-clause-run : goal.returns-clause-run

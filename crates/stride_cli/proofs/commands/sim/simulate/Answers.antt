@@ -1,10 +1,8 @@
 use Rattle.std.proofs.Common.{ap, sym}
 use Rattle.std.proofs.lemmas.Result.{err_from_is_err_and}
 use Rattle.interleavings.specs.Driving.{driven, whole_run}
-use Rattle.log_format.specs.Bundles.{lists_of}
 use Rattle.stride_cli.specs.Answers.{setting_of}
 use Rattle.stride_cli.specs.LimitsSeen.{limits_seen}
-use Rattle.stride_cli.proofs.Simulated.{sim_done}
 use Rattle.stride_cli.proofs.commands.sim.simulate.Goals as goal
 
 pub returns-in_err-input-clause-answer : goal.returns-in_err-input-clause-answer
