@@ -1,5 +1,5 @@
 -- The answer of `sim` to an input, by what became of its program, its order and its recording.
-use Rattle.std.proofs.Common.{◌≡◌, ◌∙◌, ◌++◌, ℕ, ◌+◌, ◌≤◌, List, [], Option, None, Result, Ok, Err, refl, sym, ap, subst, length, slice_index, append_assoc}
+use Rattle.std.proofs.Common.{◌≡◌, ◌∙◌, ◌++◌, ℕ, ◌+◌, ◌≤◌, List, [], Option, None, Result, Ok, Err, refl, sym, ap, subst, length, slice_get, unwrap_or, append_assoc}
 use Rattle.stride_isa.specs.Listing.{Listing}
 use Rattle.stride_isa.specs.Validity.{IsValid}
 use Rattle.interleavings.specs.declared.driven.DriveError.{DriveError}
@@ -123,12 +123,12 @@ again_looks p fuel logs traces again = ap (followed_looks printing_looks p) agai
 
 -- the report tells the summary of logs that were followed, linked, ordered and run
 pub tells_summary : ExtensionsAreWhole → (p : Listing) (fuel : ℕ) (logs : List (List LogEntry)) (traces : TraceLists) (inferred : Inferred) (results : Results) (report : List ℕ) (before after : ℕ) → IsRunAgain p fuel logs traces → IsPlayed p fuel traces inferred results
-    → report ≡ summary_lines (length p.threads) (length inferred.schedule) (halted_count results.ends) (slice_index results.last_values 0) → after ≤ before + inferring_looks traces → TellsSummary p fuel logs report before after
+    → report ≡ summary_lines (length p.threads) (length inferred.schedule) (halted_count results.ends) (unwrap_or (slice_get results.last_values 0) 0) → after ≤ before + inferring_looks traces → TellsSummary p fuel logs report before after
 tells_summary whole p fuel logs traces inferred results report before after again played put looks =
     let P : TraceLists → Type 0 = λ traces. IsInferredOf traces (Ordered inferred) in
     let Q : Result (List Followed) Divergence → Type 0 = λ r. IsInferredBy p r (Ordered inferred) in
     let plays = played.run in
-    let shown = put ∙ ap (λ (r : Results). summary_lines (length p.threads) (length inferred.schedule) (halted_count r.ends) (slice_index r.last_values 0)) plays.shows in
+    let shown = put ∙ ap (λ (r : Results). summary_lines (length p.threads) (length inferred.schedule) (halted_count r.ends) (unwrap_or (slice_get r.last_values 0) 0)) plays.shows in
     record {
       inferred = inferred;
       ordered = subst Q (sym again.follows) (subst P again.traces_are played.ordered);

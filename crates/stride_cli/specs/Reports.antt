@@ -1,5 +1,5 @@
 -- The sections of reports, each a function of one value.
-use Rattle.std.specs.Prelude.{ℕ, ◌+◌, ◌==◌, Bool, true, false, if◌then◌else◌, List, [], ◌∷◌, ◌++◌, Option, Some, None, codes, decimal, length, slice_index}
+use Rattle.std.specs.Prelude.{ℕ, ◌+◌, ◌==◌, Bool, true, false, if◌then◌else◌, List, [], ◌∷◌, ◌++◌, Option, Some, None, codes, decimal, length, slice_get, unwrap_or}
 use Rattle.stride_isa.specs.Listing.{Listing}
 use Rattle.interleavings.specs.declared.event.LogEntry.{LogEntry}
 use Rattle.interleavings.specs.declared.event.LogEntry.TheVariants.{Read, Write, Update, Enter}
@@ -146,6 +146,6 @@ summary_lines threads events halted total =
     count_line (codes "threads ") threads ++ (count_line (codes "events ") events ++ (count_line (codes "halted ") halted ++ count_line (codes "total ") total))
 
 -- the report of a demonstration on its program, the schedule and the machine at the end of its run; the total is the last value of
--- cell 0
+-- cell 0, or 0 where there is none
 abbrev pub summary_report : Listing → List ℕ → Machine → List ℕ
-summary_report p schedule m = summary_lines (length p.threads) (length schedule) (halted_count (ends m)) (slice_index (last_values p m) 0)
+summary_report p schedule m = summary_lines (length p.threads) (length schedule) (halted_count (ends m)) (unwrap_or (slice_get (last_values p m) 0) 0)

@@ -1,7 +1,7 @@
 //! `demo`: a demonstration that is recorded and replayed, and what it came to.
-ghost use Rattle.std.specs.Prelude.{◌≡◌, ◌+◌, ◌<◌, ◌≤◌, IfOk, None, Ok, length};
+ghost use Rattle.std.specs.Prelude.{◌≡◌, ◌+◌, ◌≤◌, IfOk, None, Ok, length, slice_get, unwrap_or};
+ghost use Rattle.replayer.specs.Replays.{seen};
 ghost use Rattle.demo.specs.Demo.{demo_program as program_of};
-ghost use Rattle.stride_isa.specs.Listing.{starts_of};
 ghost use Rattle.interleavings.specs.DrivenSeen.{recording_seen};
 ghost use Rattle.interleavings.specs.Driving.{driven as driven_by, stranger};
 ghost use Rattle.interleavings.specs.Following.{follow_all};
@@ -23,6 +23,7 @@ use crate::reports::{Summary, halted, put_summary};
 use demo::{demo_order, demo_program};
 use interleavings::{DriveError, Driven, LogEntry, drive};
 use recorder::Gate;
+use replayer::Replay;
 use std::alloc::Global;
 use std::sync::Wait;
 use std::sync::ledger::Ledger;
@@ -30,6 +31,13 @@ use std::thread::Threads;
 use stride_base::limits::ORDER_LIMIT;
 use stride_base::{List, NoMemory, Steps};
 use stride_isa::Checked;
+
+// The last value of cell 0, or 0 where there is none.
+fn total_of(played: &Replay) -> u64
+    ensures { result ≡ unwrap_or (slice_get (seen played.now).last_values 0) 0 }
+{
+    played.last_values.as_slice().get(0).copied().unwrap_or(0)
+}
 
 /// The summary of a recording with these logs: of the run by the schedule to which they come.
 fn summarize<L: Ledger>(
@@ -40,19 +48,19 @@ fn summarize<L: Ledger>(
     steps: &mut Steps<L>,
 ) -> Result<List<u8>, NoMemory>
     requires recorded { AreRecorded (limits_seen limits) program.now (lists_of logs.now.items) }
-    requires cells { 0 < length (starts_of program.now.decls) }
     ensures told { IfOk result (λ report. TellsSummary program.now limits.fuel (lists_of logs.now.items) report.items steps.old steps.new) }
     ensures looks { steps.new ≤ steps.old + followed_looks inferring_looks program.now (follow_all program.now limits.fuel (lists_of logs.now.items)) }
     ensures ceiling { steps.new ≤ steps.old + greatest_looks }
 {
+    event_order::extensions_are_whole();
     let traces = rerun_recorded(alloc, program, limits, logs)?;
     let replayed = play_recorded(alloc, program, limits, &traces, steps)?;
     let mut report = List::new(alloc);
     let summary = Summary {
         threads: program.threads(),
-        events: replayed.order.schedule.len() as u32,
+        events: replayed.order.schedule.len() as u64,
         halted: halted(replayed.played.ends.as_slice()),
-        total: replayed.played.last_values.as_slice()[0],
+        total: total_of(&replayed.played),
     };
     put_summary(&mut report, summary)?;
     Ok(report)

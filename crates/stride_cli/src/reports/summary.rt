@@ -11,7 +11,7 @@ use stride_isa::limits::THREAD_LIMIT;
 #[derive(Clone, Copy)]
 pub struct Summary {
     pub threads: u32,
-    pub events: u32,
+    pub events: u64,
     /// How many threads ended by their `halt`.
     pub halted: u32,
     pub total: u64,
@@ -42,7 +42,7 @@ pub fn put_summary(report: &mut List<u8>, summary: Summary) -> Result<(), NoMemo
     ensures { OnOk result (report.new.items ≡ report.old.items ++ summary_lines summary.threads summary.events summary.halted summary.total) }
 {
     put_count(report, b"threads ", u64::from(summary.threads))?;
-    put_count(report, b"events ", u64::from(summary.events))?;
+    put_count(report, b"events ", summary.events)?;
     put_count(report, b"halted ", u64::from(summary.halted))?;
     put_count(report, b"total ", summary.total)
 }
