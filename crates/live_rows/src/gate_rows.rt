@@ -128,7 +128,7 @@ fn a_held_monitor_is_waited_for(rt: HostRuntime) -> Result<(), Fail> {
     is_forced(
         &rt,
         rt.alloc(),
-        &["run"],
+        &["run", "--patience", "10000000"],
         WRITE_INSIDE,
         &inside_first(),
         b"schedule 6\n0*3\n1*3\ntranscript\nends\n0 halted\n1 halted\n",

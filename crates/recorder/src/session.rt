@@ -1,5 +1,5 @@
 //! Sessions: a program is recorded once, on threads of its own.
-ghost use Rattle.std.specs.Prelude.{◌≡◌, ◌≤◌, length, IfOk};
+ghost use Rattle.std.specs.Prelude.{◌≡◌, ◌≤◌, length, map, IfOk};
 ghost use Rattle.interleavings.specs.Recording.{IsRecording};
 ghost use Rattle.recorder.specs.Sessions.{AreShort, HasRun, IsReserved, recording_in, setting_in};
 ghost use Rattle.stride_isa.specs.Listing.{starts_of};
@@ -91,10 +91,13 @@ impl<'p> Session<'p> {
         record_all(rt, &task, &mut self.pass, self.slots.as_mut_slice(), 0, 4);
     }
 
-    /// What was recorded. It refuses nothing and takes no memory.
+    /// What was recorded: the lists, the outputs and the ends are those that the threads left. It refuses nothing and takes no memory.
     pub fn finish(self) -> Taken
         requires { HasRun self }
         ensures recording { IsRecording (setting_in self.entry) (recording_in result) }
+        ensures logs { result.logs.items ≡ map (λ slot. slot.log) self.entry.slots.items }
+        ensures outputs { result.outputs.items ≡ map (λ slot. slot.out) self.entry.slots.items }
+        ensures ends { result.ends.items ≡ map (λ slot. slot.end) self.entry.slots.items }
         ensures few { length result.logs.items ≤ THREAD_LIMIT }
         ensures short { AreShort self.entry.fuel result.logs.items }
     {
