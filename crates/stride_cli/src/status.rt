@@ -122,7 +122,7 @@ impl fmt::Display for Status {
             Status::Done => write!(f, "done"),
             Status::Usage => write!(
                 f,
-                "usage: stride [--fuel N] [--patience N] COMMAND < INPUT, with one COMMAND of check, follow, sim, run, bundle, show, upgrade, infer, replay"
+                "usage: stride [--fuel N] [--patience N] COMMAND < INPUT, with one COMMAND of check, follow, sim, run, bundle, show, upgrade, infer, replay; or stride demo N [live]"
             ),
             Status::ReadFault => write!(
                 f,
