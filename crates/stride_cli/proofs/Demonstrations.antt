@@ -12,6 +12,7 @@ use Rattle.interleavings.specs.Driving.{driven, stranger}
 use Rattle.interleavings.specs.Following.{follow_all}
 use Rattle.stride_cli.specs.Answers.{Answer, AnswersDemo, demo_recording, done, setting_of}
 use Rattle.stride_cli.specs.Inferring.{Inferred, IsInferred, Ordered}
+use Rattle.stride_cli.specs.Looks.{demo_looks, followed_looks, inferring_looks}
 use Rattle.stride_cli.specs.Playing.{TellsSummary}
 use Rattle.stride_cli.specs.Reports.{summary_report}
 use Rattle.stride_cli.specs.Settings.{demo_limits}
@@ -73,3 +74,7 @@ summary_answers number logs report before after logged told =
     let P : List (List LogEntry) → Type 0 = λ logs. TellsSummary (demo_program number) demo_limits.fuel logs report before after in
     let tells = subst P logged told in
     record { inferred = tells.inferred; ordered = tells.ordered; machine = tells.machine; runs = tells.runs; shows = ap done tells.shows }
+
+-- and their share that of the demonstration
+pub summary_looks : (number : ℕ) (logs : List (List LogEntry)) → logs ≡ (demo_recording number).logs → demo_looks number ≡ followed_looks inferring_looks (demo_program number) (follow_all (demo_program number) demo_limits.fuel logs)
+summary_looks number logs logged = ap (λ (all : List (List LogEntry)). followed_looks inferring_looks (demo_program number) (follow_all (demo_program number) demo_limits.fuel all)) (sym logged)

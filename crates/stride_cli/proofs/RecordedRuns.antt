@@ -10,7 +10,7 @@ use Rattle.interleavings.specs.Following.{Divergence, Followed, follow_all}
 use Rattle.interleavings.specs.Recording.{Recording}
 use Rattle.interleavings.specs.TraceLists.{TraceLists}
 use Rattle.linkage.specs.Sources.{event_count}
-use Rattle.event_order.specs.Laws.{ExtensionsAreWhole}
+use Rattle.event_order.specs.Laws.{ExtensionsAreWhole, traces_of}
 use Rattle.history_laws.specs.Laws.{SchedulesReplayRecordings}
 use Rattle.history_laws.specs.RecordedRuns.{IsScheduleOf}
 use Rattle.replayer.specs.Replays.{Results}
@@ -21,7 +21,7 @@ use Rattle.stride_cli.specs.Headline.{IsRecordedRun, look_limit}
 use Rattle.stride_cli.specs.Inferring.{Inferred, IsInferred, IsInferredBy, IsInferredOf, Ordered}
 use Rattle.stride_cli.specs.LiveAnswers.{AnswersLiveInput}
 use Rattle.stride_cli.specs.LiveLooks.{LiveLooks, RunLooks}
-use Rattle.stride_cli.specs.Looks.{inferring_looks}
+use Rattle.stride_cli.specs.Looks.{followed_looks, inferring_looks}
 use Rattle.stride_cli.specs.Playing.{IsPlayed, TellsSummary}
 use Rattle.stride_cli.specs.Reports.{replay_report, schedule_section, summary_report}
 use Rattle.stride_cli.specs.Runs.{run_section}
@@ -138,3 +138,13 @@ summary_run replays limits p logs report before after valid some logged told =
       reported = told.shows ∙ ap (summary_report p told.inferred.schedule) same;
       found = told.found;
     }
+
+-- no more looks were taken than are enough for the events of a recording with these logs
+pub logged_looks : (limits : Limits) (p : Listing) (logs : List (List LogEntry)) (before after : ℕ) → IsLogged limits p logs → after ≤ before + followed_looks inferring_looks p (follow_all p limits.fuel logs) → RunLooks limits (Ok p) before after
+logged_looks limits p logs before after logged looks =
+    let again = logged.recorded.followed in
+    let R : Result (List Followed) Divergence → Type 0 = λ r. after ≤ before + followed_looks inferring_looks p r in
+    let followed : after ≤ before + inferring_looks (traces_of p again.followed) = subst R (ap (follow_all p limits.fuel) (sym logged.logs_are) ∙ again.follows) looks in
+    let same = looks_enough (traces_of p again.followed) in
+    let within : after ≤ before + look_limit (event_count (traces_of p again.followed)) = omega (arith, followed, same) in
+    inr (record { recording = logged.recording; recorded = logged.recorded; all = again.followed; follows = again.follows; within = within })
