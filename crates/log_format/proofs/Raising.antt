@@ -86,10 +86,10 @@ raising_on wrong bytes turn number weight rest byte after low more r e many is =
       below = omega (arith, r.below, most);
       within = IsBytes-rest byte after (subst IsBytes (begins_with rest (byte, after) e) r.within);
       same =
-        ap (λ m. groups_at wrong m after >>= above (number + weight * low) (weight * 128)) left
-        ∙ raised number weight low byte (groups_at wrong (7 - turn) after) is
-        ∙ ap (λ g. g >>= above number weight) (sym (at_more wrong (7 - turn) byte after many))
-        ∙ opened wrong bytes turn number weight rest byte after more r e;
+          ap (λ m. groups_at wrong m after >>= above (number + weight * low) (weight * 128)) left
+          ∙ raised number weight low byte (groups_at wrong (7 - turn) after) is
+          ∙ ap (λ g. g >>= above number weight) (sym (at_more wrong (7 - turn) byte after many))
+          ∙ opened wrong bytes turn number weight rest byte after more r e;
     }
 
 pub raising_end : (wrong : Fault) (bytes : List ℕ) (turn number weight : ℕ) (rest : List ℕ) (d : Fault) → turn ≡ 8 → IsRaising wrong bytes turn number weight rest → groups_at wrong 0 rest ≡ Err d → groups_at wrong 8 bytes ≡ Err d
