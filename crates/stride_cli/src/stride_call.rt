@@ -9,7 +9,7 @@ ghost use Rattle.stride_cli.specs.LiveLooks.{LiveLooks, NamedLooks, OnUncounted}
 ghost use Rattle.stride_cli.specs.Looks.{BeforeLinking, greatest_looks};
 ghost use Rattle.stride_cli.specs.Settings.{AreInRange, limits_of};
 ghost use Rattle.stride_cli.specs.Telling.{OnDone, OnLogless, OnMemory, OnOrderless, OnReadFault, OnRefusal, OnWriteFault, RefusesNoLogs, RefusesNoMember, TellsBy};
-ghost use Rattle.stride_cli.specs.Words.{OfLine, live_named, offline_named};
+ghost use Rattle.stride_cli.specs.Words.{IsNoLine, OfLine, live_named, offline_named};
 
 use crate::commands::live_report_of;
 use crate::input::unread;
@@ -136,6 +136,9 @@ pub fn stride<R: Threads + Wait + Sync, S: Source, K: Sink, G: Gate, L: Ledger>(
     // Exactly where the words are no line of the grammar, or one of a demonstration.
     ensures usage { OnMemory result ((result ≡ Status.Usage) ↔ OfLine (map (λ word. word.now) words.entry.now) (λ settings. (live_named settings.command ≡ None) × (offline_named settings.command ≡ None))) }
     ensures unread { result ≡ Status.Usage → source.new ≡ source.old }
+
+    // Words that are no line of the grammar leave everything as it was, also where memory runs out.
+    ensures refused { IsNoLine (map (λ word. word.now) words.entry.now) → (source.new ≡ source.old) × (sink.new ≡ sink.old) × (steps.new ≡ steps.old) }
 
     ensures untouched { OnRefusal result (sink.new ≡ sink.old) }
     ensures end { OnDone result (IfSome (S.left source.new) (λ rest. rest ≡ [])) }

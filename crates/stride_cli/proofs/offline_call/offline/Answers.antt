@@ -35,3 +35,6 @@ returns-in-Err-Usage-clause-answer g c = no_line_answer AnswersSettings _ (g.S.S
 
 pub returns-in-Err-Usage-clause-usage : goal.returns-in-Err-Usage-clause-usage
 returns-in-Err-Usage-clause-usage g c = no_line_refused _ (λ settings. offline_named settings.command ≡ None) (rw c.in-Err-Usage.field-0-is at c.in-Err-Usage.ensures)
+
+pub returns-in-Ok-clause-refused : goal.returns-in-Ok-clause-refused
+returns-in-Ok-clause-refused g c = λ none. absurd (none c.in-Ok.settings c.in-Ok.ensures)
