@@ -6,7 +6,7 @@ use Rattle.log_format.specs.declared.version.Size.TheVariants.{Bits16, Bits32}
 use Rattle.log_format.specs.declared.version.Version.{Version}
 use Rattle.log_format.specs.Bundles.{Bundled}
 use Rattle.log_format.specs.Laws.{FuelIsInRange}
-use Rattle.log_format.specs.Reading.{body_at, bundle_at, fuel_at, logs_at, magic_at, number_at, number_up_to, placed, reading, text_at}
+use Rattle.log_format.specs.Reading.{body_at, bundle_at, fuel_at, logs_at, magic_at, number_at, number_up_to, placed, text_at}
 use Rattle.log_format.proofs.Readers.{bind_ok, given, guard_ok, guard_passed, ok_is}
 
 -- a number of instructions that is within its range

@@ -44,7 +44,7 @@ next_group most byte higher high small some =
 -- ---- the higher groups
 
 -- the value with a lower group
-abbrev with_low : ℕ → ℕ × List ℕ → Result (ℕ × List ℕ) Fault
+abbrev pub with_low : ℕ → ℕ × List ℕ → Result (ℕ × List ℕ) Fault
 with_low byte higher = Ok (byte - 128 + 128 * higher.0, higher.1)
 
 -- the fault of the groups above is that of all
@@ -52,13 +52,13 @@ failed_first : (r : Result (ℕ × List ℕ) Fault) (byte : ℕ) (d : Fault) →
 failed_first (Ok x) byte d e = absurd (ok_fails (byte - 128 + 128 * x.0, x.1) d e)
 failed_first (Err wrong) byte d e = ap failed (err_is wrong d e)
 
-at_last : (wrong : Fault) (most byte : ℕ) (rest : List ℕ) → 1 ≤ byte → byte < 128 → groups_at wrong (suc most) (byte ∷ rest) ≡ Ok (byte, rest)
+pub at_last : (wrong : Fault) (most byte : ℕ) (rest : List ℕ) → 1 ≤ byte → byte < 128 → groups_at wrong (suc most) (byte ∷ rest) ≡ Ok (byte, rest)
 unfolding groups_at
 at_last wrong most byte rest some few =
     ap (λ b. cond b (failed wrong) (cond (ltb byte 128) (given (byte, rest)) (groups_at wrong most rest >>= with_low byte))) (ne_eqb byte 0 (omega arith))
     ∙ ap (λ b. cond b (given (byte, rest)) (groups_at wrong most rest >>= with_low byte)) (lt-ltb byte 128 few)
 
-at_more : (wrong : Fault) (most byte : ℕ) (rest : List ℕ) → 128 ≤ byte → groups_at wrong (suc most) (byte ∷ rest) ≡ (groups_at wrong most rest >>= with_low byte)
+pub at_more : (wrong : Fault) (most byte : ℕ) (rest : List ℕ) → 128 ≤ byte → groups_at wrong (suc most) (byte ∷ rest) ≡ (groups_at wrong most rest >>= with_low byte)
 unfolding groups_at
 at_more wrong most byte rest many =
     ap (λ b. cond b (failed wrong) (cond (ltb byte 128) (given (byte, rest)) (groups_at wrong most rest >>= with_low byte))) (ne_eqb byte 0 (omega arith))

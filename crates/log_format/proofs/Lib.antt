@@ -9,6 +9,7 @@ pub mod Groups
 pub mod LogReaders
 pub mod Loops
 pub mod NumberReaders
+pub mod Raising
 pub mod Readers
 pub mod Wide
 pub mod Written

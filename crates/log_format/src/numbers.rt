@@ -1,7 +1,7 @@
 //! The numbers of a bundle, from the front of the bytes.
 ghost use Rattle.std.specs.Prelude.{◌≡◌, ◌≤◌, IfOk};
 ghost use Rattle.log_format.specs.Answers.{Gives};
-ghost use Rattle.log_format.specs.Reading.{fault, fuel_at, groups_at, grouped_at, number_at, number_up_to, wide_at};
+ghost use Rattle.log_format.specs.Reading.{byte_at as next_byte, fault, fuel_at, groups_at, grouped_at, number_at, number_up_to, wide_at};
 ghost use Rattle.log_format.specs.Spelling.{greatest};
 
 use crate::fault::{Fault, ReadError};
@@ -22,31 +22,49 @@ fn wide_at(size: Size, bytes: &[u8]) -> Result<(u64, &[u8]), ReadError>
     Ok((BigEndian::read_uint(front, width), rest))
 }
 
-// The higher groups of seven bits, of which so many can have a high bit.
-#[tactic(auto, unfolding(crate::specs::Reading::groups_at))]
-fn groups_at(wrong: Fault, most: u8, bytes: &[u8]) -> Result<(u64, &[u8]), ReadError>
-    requires { most ≤ 8 }
-    ensures { Gives (λ x. (x.0, x.1.now)) result (groups_at wrong most bytes.now) }
+#[inline(always)]
+fn byte_at(bytes: &[u8]) -> Result<(u8, &[u8]), ReadError>
+    ensures { Gives (λ x. (x.0, x.1.now)) result (next_byte bytes.now) }
 {
-    let [byte, rest @ ..] = bytes else {
-        return Err(ReadError::SHORT);
-    };
-    let byte = *byte;
-    if most == 0 {
-        return if byte == 1 {
-            Ok((1, rest))
-        } else {
-            Err(ReadError::Fault(wrong))
-        };
+    match bytes {
+        [] => Err(ReadError::SHORT),
+        [byte, rest @ ..] => Ok((*byte, rest)),
     }
-    if byte == 0 {
-        return Err(ReadError::Fault(wrong));
+}
+
+// The last of the higher groups that can come.
+#[tactic(auto, unfolding(crate::specs::Reading::groups_at))]
+fn last_group_at(wrong: Fault, bytes: &[u8]) -> Result<&[u8], ReadError>
+    ensures { Gives (λ rest. (1, rest.now)) result (groups_at wrong 0 bytes.now) }
+{
+    match bytes {
+        [] => Err(ReadError::SHORT),
+        [1, rest @ ..] => Ok(rest),
+        [_, ..] => Err(ReadError::Fault(wrong)),
     }
-    if byte < 128 {
-        return Ok((u64::from(byte), rest));
+}
+
+// The higher groups of seven bits, of which eight can have a high bit.
+fn groups_at(wrong: Fault, bytes: &[u8]) -> Result<(u64, &[u8]), ReadError>
+    ensures { Gives (λ x. (x.0, x.1.now)) result (groups_at wrong 8 bytes.now) }
+{
+    let mut number = 0;
+    let mut weight = 1;
+    let mut rest = bytes;
+    for _ in 0..8_u8 {
+        let (byte, after) = byte_at(rest)?;
+        if byte == 0 {
+            return Err(ReadError::Fault(wrong));
+        }
+        if byte < 128 {
+            return Ok((number + weight * u64::from(byte), after));
+        }
+        number += weight * u64::from(byte - 128);
+        weight *= 128;
+        rest = after;
     }
-    let (higher, rest) = groups_at(wrong, most - 1, rest)?;
-    Ok((u64::from(byte - 128) + 128 * higher, rest))
+    let rest = last_group_at(wrong, rest)?;
+    Ok((number + weight, rest))
 }
 
 #[tactic(auto, unfolding(crate::specs::Reading::grouped_at))]
@@ -64,7 +82,7 @@ fn grouped_at(bytes: &[u8]) -> Result<(u64, &[u8]), ReadError>
         kind: FormatKind::BadForm,
         left: bytes.len(),
     };
-    let (higher, rest) = groups_at(wrong, 8, rest)?;
+    let (higher, rest) = groups_at(wrong, rest)?;
     Ok((u64::from(byte - 128) + 128 * higher, rest))
 }
 

@@ -55,7 +55,7 @@ fn run<L: Ledger, R: Threads + Wait + Sync + Input + Print>(
 }
 
 /// One line on standard error, where the command is not done: for words that are refused it tells what is wrong with them.
-fn tell<R: Print>(rt: &R, status: &Status, words: &[&str]) {
+fn tell<R: Eprint>(rt: &R, status: &Status, words: &[&str]) {
     match status {
         Status::Done => {}
         Status::Usage => {
@@ -68,7 +68,7 @@ fn tell<R: Print>(rt: &R, status: &Status, words: &[&str]) {
     }
 }
 
-fn status_of<R: Threads + Wait + Sync + Input + Print>(
+fn status_of<R: Threads + Wait + Sync + Input + Print + Eprint>(
     rt: &R,
     alloc: Global,
     args: &[String],

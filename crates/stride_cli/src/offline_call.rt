@@ -7,7 +7,7 @@ ghost use Rattle.stride_cli.specs.LimitsSeen.{limits_seen};
 ghost use Rattle.stride_cli.specs.Looks.{BeforeLinking, OnUnlinking, greatest_looks, most_looks};
 ghost use Rattle.stride_cli.specs.Settings.{AreInRange, limits_of};
 ghost use Rattle.stride_cli.specs.Telling.{OnDone, OnLogless, OnMemory, OnOrderless, OnReadFault, OnRefusal, OnWriteFault, RefusesNoLogs, RefusesNoMember, Tells, TellsBy};
-ghost use Rattle.stride_cli.specs.Words.{OfLine, named_reads, offline_named, reads};
+ghost use Rattle.stride_cli.specs.Words.{IsNoLine, OfLine, named_reads, offline_named, reads};
 
 use crate::commands::report_of;
 use crate::input::{read_bytes, unread};
@@ -110,6 +110,9 @@ pub fn offline<S: Source, K: Sink, L: Ledger>(
     // Exactly where the words are no line of the grammar, or one of a command that isn't for this call.
     ensures usage { OnMemory result ((result ≡ Status.Usage) ↔ OfLine (map (λ word. word.now) words.entry.now) (λ settings. offline_named settings.command ≡ None)) }
     ensures unread { result ≡ Status.Usage → source.new ≡ source.old }
+
+    // Words that are no line of the grammar leave everything as it was, also where memory runs out.
+    ensures refused { IsNoLine (map (λ word. word.now) words.entry.now) → (source.new ≡ source.old) × (sink.new ≡ sink.old) × (steps.new ≡ steps.old) }
 
     ensures untouched { OnRefusal result (sink.new ≡ sink.old) }
     // A command that reads an input reads it to its end.

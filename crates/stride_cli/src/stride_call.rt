@@ -139,6 +139,9 @@ pub fn stride<R: Threads + Wait + Sync, S: Source, K: Sink, G: Gate, L: Ledger>(
     ensures usage { OnMemory result ((result ≡ Status.Usage) ↔ IsNoLine (map (λ word. word.now) words.entry.now)) }
     ensures unread { result ≡ Status.Usage → source.new ≡ source.old }
 
+    // Words that are no line of the grammar leave everything as it was, also where memory runs out.
+    ensures refused { IsNoLine (map (λ word. word.now) words.entry.now) → (source.new ≡ source.old) × (sink.new ≡ sink.old) × (steps.new ≡ steps.old) }
+
     ensures untouched { OnRefusal result (sink.new ≡ sink.old) }
     // A command that reads an input reads it to its end.
     ensures end { OfLine (map (λ word. word.now) words.entry.now) (λ settings. MatchBool (named_reads (live_named settings.command) (offline_named settings.command)) (OnDone result (IfSome (S.left source.new) (λ rest. rest ≡ []))) (source.new ≡ source.old)) }
