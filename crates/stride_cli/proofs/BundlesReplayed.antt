@@ -31,7 +31,7 @@ use Rattle.stride_cli.specs.LiveAnswers.{AnswersLive, AnswersLiveBundle, Answers
 use Rattle.stride_cli.specs.LiveLaws.{BundlesAreReplayed, HoldsProgram, HoldsRecording, IsReplayed}
 use Rattle.stride_cli.specs.Reports.{replay_report}
 use Rattle.stride_cli.specs.Settings.{Limits, limits_of}
-use Rattle.stride_cli.specs.Words.{live_named, offline_named}
+use Rattle.stride_cli.specs.Words.{given, live_named, offline_named, reads as reads_input}
 use Rattle.stride_cli.proofs.Readings.{of_line}
 use Rattle.stride_cli.proofs.Recordings.{Laws as Recorded, unrefused}
 
@@ -105,16 +105,17 @@ module _ (laws : Laws) (limits : Limits) (p : Listing) (valid : IsValid p) (byte
         by_logs answer (by_verdict judged.0 answer judged.1.0 judged.1.1)
 
   -- the answer of a command to them
-  by_command : (given : Limits) (command : Command) (named : Option Command) (answer : Answer) → named ≡ Some command → AnswersBy given named bytes answer → AnswersInput given command bytes answer
-  by_command given command named answer names answered =
-      let P : Option Command → Type 0 = λ c. AnswersBy given c bytes answer in
-      let Q : Bool → Type 0 = λ b. MatchBool b (answer ≡ refused TooLong) (AnswersInput given command bytes answer) in
-      subst Q within (subst P names answered)
+  by_command : (set : Limits) (command : Command) (named : Option Command) (answer : Answer) → reads_input command ≡ true → named ≡ Some command → AnswersBy set named bytes answer → AnswersInput set command bytes answer
+  by_command set command named answer read names answered =
+      let P : Option Command → Type 0 = λ c. AnswersBy set c bytes answer in
+      let R : Bool → Type 0 = λ b. MatchBool (nat_lt INPUT_LIMIT (length (given b bytes))) (answer ≡ refused TooLong) (AnswersInput set command (given b bytes) answer) in
+      let Q : Bool → Type 0 = λ b. MatchBool b (answer ≡ refused TooLong) (AnswersInput set command bytes answer) in
+      subst Q within (subst R read (subst P names answered))
 
   -- the answer to words that name one
-  by_words : (words : List Word) (answer : Answer) (command : Command) → IsAnswer words bytes answer → (settings : Settings) → IsLine words settings → offline_named settings.command ≡ Some command → AnswersInput (limits_of settings) command bytes answer
-  by_words words answer command answered settings line names =
-      by_command (limits_of settings) command (offline_named settings.command) answer names (of_line laws.reading (AnswersSettings bytes) words answer answered settings line)
+  by_words : (words : List Word) (answer : Answer) (command : Command) → IsAnswer words bytes answer → (settings : Settings) → IsLine words settings → reads_input command ≡ true → offline_named settings.command ≡ Some command → AnswersInput (limits_of settings) command bytes answer
+  by_words words answer command answered settings line read names =
+      by_command (limits_of settings) command (offline_named settings.command) answer read names (of_line laws.reading (AnswersSettings bytes) words answer answered settings line)
 
   replayed_so : (answer : Answer) → AnswersBundle AnswersRun (reading bytes) answer → IsReplayed limits p is.recording is.recorded answer
   replayed_so answer answered =
@@ -129,8 +130,8 @@ module _ (laws : Laws) (limits : Limits) (p : Listing) (valid : IsValid p) (byte
     recording = is.recording;
     recorded = is.recorded;
     reads = reads;
-    inferred = λ words answer answered settings line named. ap (λ (a : Answer). a.status) (by_bundle AnswersLinks answer (by_words words answer Infer answered settings line (ap offline_named named))).2;
-    replayed = λ words answer answered settings line named. replayed_so answer (by_words words answer Replay answered settings line (ap offline_named named));
+    inferred = λ words answer answered settings line named. ap (λ (a : Answer). a.status) (by_bundle AnswersLinks answer (by_words words answer Infer answered settings line refl (ap offline_named named))).2;
+    replayed = λ words answer answered settings line named. replayed_so answer (by_words words answer Replay answered settings line refl (ap offline_named named));
   }
 
 module _ (laws : Laws) (limits : Limits) (input bytes : List ℕ) where

@@ -15,7 +15,13 @@ use Rattle.stride_cli.specs.Inferring.{Inferred, IsInferred, Ordered}
 use Rattle.stride_cli.specs.Looks.{demo_looks, followed_looks, inferring_looks}
 use Rattle.stride_cli.specs.Playing.{TellsSummary}
 use Rattle.stride_cli.specs.Reports.{summary_report}
-use Rattle.stride_cli.specs.Settings.{demo_limits}
+use Rattle.stride_cli.specs.Settings.{Limits, demo_limits}
+use Rattle.stride_cli.specs.Again.{IsLogged}
+use Rattle.stride_cli.specs.Headline.{IsRecordedRun}
+use Rattle.stride_cli.specs.LiveLooks.{RunLooks}
+use Rattle.stride_isa.specs.Validity.{IsValid}
+use Rattle.history_laws.specs.Laws.{SchedulesReplayRecordings}
+use Rattle.stride_cli.proofs.RecordedRuns.{logged_looks, summary_run}
 use Rattle.stride_cli.proofs.Inferences.{Laws as Inferring, one_inference}
 use Rattle.stride_cli.proofs.Simulations.{Laws, recording_answer}
 
@@ -78,3 +84,41 @@ summary_answers number logs report before after logged told =
 -- and their share that of the demonstration
 pub summary_looks : (number : ℕ) (logs : List (List LogEntry)) → logs ≡ (demo_recording number).logs → demo_looks number ≡ followed_looks inferring_looks (demo_program number) (follow_all (demo_program number) demo_limits.fuel logs)
 summary_looks number logs logged = ap (λ (all : List (List LogEntry)). followed_looks inferring_looks (demo_program number) (follow_all (demo_program number) demo_limits.fuel all)) (sym logged)
+
+module _ (number : ℕ) (p : Listing) (limits : Limits) (logs : List (List LogEntry)) (before after : ℕ) (p_is : p ≡ demo_program number) (limits_are : limits ≡ demo_limits) where
+  module _ (order : List ℕ) (order_is : order ≡ demo_order number) (logged : logs ≡ (driven (setting_of limits p) order).logs) where
+    -- the logs of the order's recording are those of the demonstration
+    demo_logs : logs ≡ (demo_recording number).logs
+    demo_logs =
+        logged
+        ∙ ap (λ (l : Limits). (driven (setting_of l p) order).logs) limits_are
+        ∙ ap (λ (q : Listing). (driven (setting_of demo_limits q) order).logs) p_is
+        ∙ ap (λ (o : List ℕ). (driven (setting_of demo_limits (demo_program number)) o).logs) order_is
+
+    -- so the summary of its logs is the answer
+    pub summary_by : (report : List ℕ) → TellsSummary p limits.fuel logs report before after → AnswersDemo number (done report)
+    summary_by report told =
+        let L : Limits → Type 0 = λ l. TellsSummary p l.fuel logs report before after in
+        let Q : Listing → Type 0 = λ q. TellsSummary q demo_limits.fuel logs report before after in
+        summary_answers number logs report before after demo_logs (subst Q p_is (subst L limits_are told))
+
+    -- and their share that of the demonstration
+    pub looks_by : demo_looks number ≡ followed_looks inferring_looks p (follow_all p limits.fuel logs)
+    looks_by =
+        summary_looks number logs demo_logs
+        ∙ ap (λ (q : Listing). followed_looks inferring_looks q (follow_all q demo_limits.fuel logs)) (sym p_is)
+        ∙ ap (λ (l : Limits). followed_looks inferring_looks p (follow_all p l.fuel logs)) (sym limits_are)
+
+  module _ (logged : IsLogged limits p logs) where
+    -- the summary of logs of threads that ran beside each other is that of their replay
+    pub live_summary : SchedulesReplayRecordings → IsValid p → 1 ≤ limits.fuel → (report : List ℕ) → TellsSummary p limits.fuel logs report before after → IsRecordedRun demo_limits (demo_program number) (summary_report (demo_program number)) report before after
+    live_summary replays valid some report told =
+        let L : Limits → Type 0 = λ l. IsRecordedRun l p (summary_report p) report before after in
+        let Q : Listing → Type 0 = λ q. IsRecordedRun demo_limits q (summary_report q) report before after in
+        subst Q p_is (subst L limits_are (summary_run replays limits p logs report before after valid some logged told))
+
+    pub live_looks : after ≤ before + followed_looks inferring_looks p (follow_all p limits.fuel logs) → RunLooks demo_limits (Ok (demo_program number)) before after
+    live_looks looks =
+        let L : Limits → Type 0 = λ l. RunLooks l (Ok p) before after in
+        let Q : Listing → Type 0 = λ q. RunLooks demo_limits (Ok q) before after in
+        subst Q p_is (subst L limits_are (logged_looks limits p logs before after logged looks))

@@ -9,6 +9,7 @@ pub mod Followed
 pub mod Inferences
 pub mod LeastRuns
 pub mod Lines
+pub mod LiveKept
 pub mod LivePrograms
 pub mod Logless
 pub mod Members

@@ -62,7 +62,8 @@ no_line_answer Answers words (Some bytes) none = inr (none, refl)
 
 -- a line's call is refused by no words
 pub line_done : (words : List Word) (settings : Settings) (status : Status) → IsLine words settings → (status ≡ Usage → ⊥) → OnMemory status ((status ≡ Usage) ↔ IsNoLine words)
-line_done words settings status line used = on_memory status ((λ is. absurd (used is)), (λ none. absurd (none settings line)))
+line_done words settings status line used =
+    on_memory status ((status ≡ Usage) ↔ IsNoLine words) ((λ is. absurd (used is)), (λ none. absurd (none settings line)))
 
 -- and words that are none are
 pub no_line_usage : (words : List Word) → IsNoLine words → (Usage ≡ Usage) ↔ IsNoLine words

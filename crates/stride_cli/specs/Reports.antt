@@ -1,5 +1,6 @@
 -- The sections of reports, each a function of one value.
 use Rattle.std.specs.Prelude.{ℕ, ◌+◌, ◌==◌, Bool, true, false, if◌then◌else◌, List, [], ◌∷◌, ◌++◌, Option, Some, None, codes, decimal, length, slice_get, unwrap_or}
+use Rattle.std.specs.List.{count_by}
 use Rattle.stride_isa.specs.Listing.{Listing}
 use Rattle.interleavings.specs.declared.event.LogEntry.{LogEntry}
 use Rattle.interleavings.specs.declared.event.LogEntry.TheVariants.{Read, Write, Update, Enter}
@@ -133,8 +134,7 @@ is_halted (Stopped pc) = false
 
 -- how many of the ends are by a `halt`
 abbrev pub halted_count : List End → ℕ
-halted_count [] = 0
-halted_count (end ∷ ends) = (if is_halted end then 1 else 0) + halted_count ends
+halted_count all = count_by is_halted all
 
 -- a line of this word and a count
 abbrev pub count_line : List ℕ → ℕ → List ℕ

@@ -1,5 +1,5 @@
 //! What commands read: a program, or a program with an order.
-ghost use Rattle.std.specs.Prelude.{◌≡◌, ◌<◌, ◌≤◌, [], length, Err, IfOk, IfErr, IfSome, OnOk};
+ghost use Rattle.std.specs.Prelude.{◌≡◌, ◌<◌, ◌≤◌, [], length, true, Err, IfOk, IfErr, IfSome, OnOk};
 ghost use Rattle.std.specs.Bool.{MatchBool};
 ghost use Rattle.stride_base.specs.Devices.{Rose};
 ghost use Rattle.stride_cli.specs.Gives.{Refuses};
@@ -37,6 +37,7 @@ pub fn read_bytes<S: Source>(
     ensures all { IfOk result (λ list. IfSome (S.left source.old) (λ bytes. list.items ≡ given reads bytes)) }
     ensures end { MatchBool reads (OnOk result (IfSome (S.left source.new) (λ rest. rest ≡ []))) (source.new ≡ source.old) }
     ensures within { IfOk result (λ list. length list.items ≤ INPUT_LIMIT) }
+    ensures fails { IfErr result (λ _. reads ≡ true) }
     ensures read_fault { result ≡ Err InputError.ReadFault → Rose (S.faults source.old) (S.faults source.new) }
     ensures too_long { result ≡ Err InputError.TooLong → IfSome (S.left source.old) (λ bytes. INPUT_LIMIT < length (given reads bytes)) }
     ensures counted { S.faults source.old ≤ S.faults source.new }

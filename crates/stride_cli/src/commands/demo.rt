@@ -59,7 +59,7 @@ fn summarize<L: Ledger>(
     let summary = Summary {
         threads: program.threads(),
         events: replayed.order.schedule.len() as u64,
-        halted: halted(replayed.played.ends.as_slice()),
+        halted: halted(replayed.played.ends.as_slice()) as u64,
         total: total_of(&replayed.played),
     };
     put_summary(&mut report, summary)?;

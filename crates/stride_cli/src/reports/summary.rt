@@ -1,11 +1,10 @@
 //! The summary of a demonstration.
-ghost use Rattle.std.specs.Prelude.{◌≡◌, ◌≤◌, ◌++◌, OnOk, length};
-ghost use Rattle.stride_cli.specs.Reports.{count_line, halted_count, summary_lines};
+ghost use Rattle.std.specs.Prelude.{◌≡◌, ◌++◌, OnOk};
+ghost use Rattle.stride_cli.specs.Reports.{count_line, halted_count, is_halted as has_halted, summary_lines};
 
 use itoa::Buffer;
 use sc_machine::End;
 use stride_base::{List, NoMemory};
-use stride_isa::limits::THREAD_LIMIT;
 
 /// What a demonstration came to.
 #[derive(Clone, Copy)]
@@ -13,20 +12,24 @@ pub struct Summary {
     pub threads: u32,
     pub events: u64,
     /// How many threads ended by their `halt`.
-    pub halted: u32,
+    pub halted: u64,
     pub total: u64,
 }
 
+fn is_halted(end: End) -> bool
+    ensures { result ≡ has_halted end }
+{
+    match end {
+        End::Halted => true,
+        End::Trapped { trap: _, pc: _ } | End::OutOfSteps | End::Stopped { pc: _ } => false,
+    }
+}
+
 /// How many of the ends are by a `halt`.
-pub fn halted(ends: &[End]) -> u32
-    requires { length ends.now ≤ THREAD_LIMIT }
+pub fn halted(ends: &[End]) -> usize
     ensures { result ≡ halted_count ends.now }
 {
-    match ends {
-        [] => 0,
-        [End::Halted, rest @ ..] => 1 + halted(rest),
-        [_, rest @ ..] => halted(rest),
-    }
+    ends.iter().filter(|end| is_halted(**end)).count()
 }
 
 fn put_count(report: &mut List<u8>, word: &[u8], count: u64) -> Result<(), NoMemory>
@@ -43,6 +46,6 @@ pub fn put_summary(report: &mut List<u8>, summary: Summary) -> Result<(), NoMemo
 {
     put_count(report, b"threads ", u64::from(summary.threads))?;
     put_count(report, b"events ", summary.events)?;
-    put_count(report, b"halted ", u64::from(summary.halted))?;
+    put_count(report, b"halted ", summary.halted)?;
     put_count(report, b"total ", summary.total)
 }

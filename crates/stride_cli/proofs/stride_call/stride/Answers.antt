@@ -68,6 +68,5 @@ returns-in-Err-Usage-clause-end g c =
     let none : IsNoLine _ = rw c.in-Err-Usage.field-0-is at c.in-Err-Usage.ensures in
     λ settings line. absurd (none settings line)
 
-
 pub returns-in-Ok-clause-refused : goal.returns-in-Ok-clause-refused
 returns-in-Ok-clause-refused g c = λ none. absurd (none c.in-Ok.settings c.in-Ok.ensures)

@@ -1,0 +1,15 @@
+use Rattle.std.proofs.Common.{◌∙◌, ◌<◌, Bool, Err, IfSome, ap, sym, subst, length}
+use Rattle.stride_base.specs.declared.limits.TheConstants.{INPUT_LIMIT}
+use Rattle.stride_cli.specs.Headline.{World}
+use Rattle.stride_cli.specs.LimitsSeen.{limits_seen}
+use Rattle.stride_cli.specs.Words.{given}
+use Rattle.stride_cli.proofs.LiveKept.{unread_kept}
+use Rattle.stride_cli.proofs.stride_call.live_command.Goals as goal
+
+pub returns-in-Err-clause-promise : goal.returns-in-Err-clause-promise
+returns-in-Err-clause-promise g c =
+    let before : World = record { held = g.K.Sink.held c.args.sink.now; sink_faults = g.K.Sink.faults c.args.sink.now; source_faults = g.S.Source.faults c.args.source.now; looks = c.args.steps.now } in
+    let after : World = record { held = g.K.Sink.held c.args.sink.now; sink_faults = g.K.Sink.faults c.args.sink.now; source_faults = g.S.Source.faults c.read_bytes.new.source; looks = c.args.steps.now } in
+    let Long : Bool → Type 0 = λ reads. IfSome (g.S.Source.left c.args.source.now) (λ bytes. INPUT_LIMIT < length (given reads bytes)) in
+    unread_kept (limits_seen c.args.limits) (g.S.Source.left c.args.source.now) before after c.args.command c.in-Err.error c.unread.result c.unread.ensures (sym c.reads_input.ensures ∙ c.in-Err.ensures.fails)
+    (λ is. c.in-Err.ensures.read_fault (ap Err is)) (λ is. subst Long c.reads_input.ensures (c.in-Err.ensures.too_long (ap Err is)))
