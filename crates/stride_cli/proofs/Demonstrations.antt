@@ -1,5 +1,5 @@
 -- The recording of a demonstration, and what is answered to its number.
-use Rattle.std.proofs.Common.{◌≡◌, ◌∙◌, ℕ, ◌+◌, ◌<◌, ◌≤◌, Bool, true, false, List, [], ◌∷◌, Option, Some, None, Result, Ok, nat_le, option_map, if◌then◌else◌, refl, sym, ap, subst, arith, length}
+use Rattle.std.proofs.Common.{◌≡◌, ◌∙◌, ℕ, ◌+◌, ◌<◌, ◌≤◌, Bool, true, false, List, [], ◌∷◌, Option, Some, None, Ok, nat_le, option_map, if◌then◌else◌, refl, sym, ap, subst, arith, length}
 use Rattle.std.proofs.lemmas.Bool.{lt-leb}
 use Rattle.std.specs.List.{AllByRecursion}
 use Rattle.demo.specs.Demo.{demo_order, demo_program, thread_count}
@@ -11,7 +11,7 @@ use Rattle.interleavings.specs.declared.event.LogEntry.{LogEntry}
 use Rattle.interleavings.specs.Driving.{driven, stranger}
 use Rattle.interleavings.specs.Following.{follow_all}
 use Rattle.stride_cli.specs.Answers.{Answer, AnswersDemo, demo_recording, done, setting_of}
-use Rattle.stride_cli.specs.Inferring.{Inferred, IsInferred, Ordered}
+use Rattle.stride_cli.specs.Inferring.{Inferred, Ordered}
 use Rattle.stride_cli.specs.Looks.{demo_looks, followed_looks, inferring_looks}
 use Rattle.stride_cli.specs.Playing.{TellsSummary}
 use Rattle.stride_cli.specs.Reports.{summary_report}

@@ -2,10 +2,10 @@
 //!
 //! Owns: what the words name and set (`Words`, `Settings`), the reports (`Reports`), what logs come to (`Inferring`), the answer to
 //! words and bytes (`Answers`), what a status tells of it (`Telling`), and how many looks it takes (`Looks`).
-//! The layer above is `main` alone. It may rely on the clauses of `offline`: the status and the report are those of the
-//! answer, of which there is one, a fault is answered only where the device's count rose, and a refusal leaves
-//! the sink as it was. What `replay` is done with is a run in which each thread makes exactly the events of its log, and what `sim` is done with
-//! one in which it makes exactly its recorded events.
+//! The layer above is `main` alone. It may rely on the clauses of `stride`, the headline among them, and of `offline`: the status and
+//! the report are those of the answer, of which there is one where no thread is started; a fault is answered only where the device's
+//! count rose; and a refusal leaves the sink as it was. What `replay` is done with is a run in which each thread makes exactly the
+//! events of its log, and what `sim` is done with one in which it makes exactly its recorded events.
 #![tactic(auto)]
 
 mod commands;
