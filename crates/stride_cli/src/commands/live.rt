@@ -6,7 +6,7 @@ ghost use Rattle.stride_cli.specs.LiveLooks.{LiveLooks, OnUncounted};
 ghost use Rattle.stride_cli.specs.Looks.{OnEarly, greatest_looks};
 
 use crate::commands::bundle::bundle_program;
-use crate::commands::demo::demonstrate_live;
+use crate::commands::demonstration::demonstrate_live;
 use crate::commands::run::run_program;
 use crate::limits::Limits;
 use crate::refusal::Refusal;

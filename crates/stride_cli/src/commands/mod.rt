@@ -6,7 +6,7 @@ ghost use Rattle.stride_cli.specs.Looks.{OnEarly, OnUnlinking, command_looks, gr
 
 mod bundle;
 mod check;
-mod demo;
+mod demonstration;
 mod follow;
 mod infer;
 mod live;
@@ -20,7 +20,7 @@ use crate::limits::Limits;
 use crate::refusal::Refusal;
 use crate::words::Command;
 use check::check_text;
-use demo::demonstrate;
+use demonstration::demonstrate;
 use follow::follow_schedule;
 use infer::infer_bundle;
 pub use live::live_report_of;

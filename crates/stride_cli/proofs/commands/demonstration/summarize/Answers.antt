@@ -4,7 +4,7 @@ use Rattle.replayer.specs.Replays.{seen}
 use Rattle.stride_cli.specs.Inferring.{Inferred}
 use Rattle.stride_cli.specs.Reports.{halted_count, summary_lines}
 use Rattle.stride_cli.proofs.Simulated.{tells_summary}
-use Rattle.stride_cli.proofs.commands.demo.summarize.Goals as goal
+use Rattle.stride_cli.proofs.commands.demonstration.summarize.Goals as goal
 
 pub returns-clause-told : goal.returns-clause-told
 returns-clause-told g c =

@@ -3,7 +3,7 @@ use Rattle.log_format.specs.Bundles.{lists_of}
 use Rattle.stride_cli.specs.LimitsSeen.{limits_seen}
 use Rattle.stride_cli.proofs.Demonstrations.{live_looks, live_summary}
 use Rattle.stride_cli.proofs.RecordedRuns.{logged_steps}
-use Rattle.stride_cli.proofs.commands.demo.demonstrate_live.Goals as goal
+use Rattle.stride_cli.proofs.commands.demonstration.demonstrate_live.Goals as goal
 
 pub summarize-requires : goal.summarize-requires
 summarize-requires g c = record { recorded = logged_steps (limits_seen c.of_demonstrations-limits.result) c.in_ok-program.program (lists_of c.in_ok-logs.logs.items) c.in_ok-logs.ensures.recorded }

@@ -5,7 +5,7 @@ use Rattle.log_format.specs.Bundles.{lists_of}
 use Rattle.stride_cli.specs.Answers.{setting_of}
 use Rattle.stride_cli.specs.LimitsSeen.{limits_seen}
 use Rattle.stride_cli.proofs.Demonstrations.{known_members, looks_by, summary_by}
-use Rattle.stride_cli.proofs.commands.demo.demonstrate.Goals as goal
+use Rattle.stride_cli.proofs.commands.demonstration.demonstrate.Goals as goal
 
 pub drive_known-requires-clause-known : goal.drive_known-requires-clause-known
 drive_known-requires-clause-known g c =
