@@ -86,9 +86,30 @@ const NEW_VALUE: &[u8] = b"schedule 2\n1*1\n0*1\ntranscript\n0 7\nends\n0 halted
 #[test]
 fn gates_force_what_run_replays(rt: HostRuntime) -> Result<(), Fail> {
     let alloc = rt.alloc();
-    is_forced(&rt, alloc, &["run"], READ_AND_WRITE, &reader_first(), OLD_VALUE)?;
-    is_forced(&rt, alloc, &["run"], READ_AND_WRITE, &writer_first(), OLD_VALUE)?;
-    is_forced(&rt, alloc, &["run"], READ_AND_WRITE, &reader_after(), NEW_VALUE)
+    is_forced(
+        &rt,
+        alloc,
+        &["run"],
+        READ_AND_WRITE,
+        &reader_first(),
+        OLD_VALUE,
+    )?;
+    is_forced(
+        &rt,
+        alloc,
+        &["run"],
+        READ_AND_WRITE,
+        &writer_first(),
+        OLD_VALUE,
+    )?;
+    is_forced(
+        &rt,
+        alloc,
+        &["run"],
+        READ_AND_WRITE,
+        &reader_after(),
+        NEW_VALUE,
+    )
 }
 
 /// The bundle of the two threads: the text behind its length, and then a read of this value with bound 1, and write 1.
@@ -106,9 +127,30 @@ fn gates_force_what_bundle_logs(rt: HostRuntime) -> Result<(), Fail> {
     let alloc = rt.alloc();
     let old = bundle_of(alloc, 0)?;
     let new = bundle_of(alloc, 7)?;
-    is_forced(&rt, alloc, &["bundle"], READ_AND_WRITE, &reader_first(), &old)?;
-    is_forced(&rt, alloc, &["bundle"], READ_AND_WRITE, &writer_first(), &old)?;
-    is_forced(&rt, alloc, &["bundle"], READ_AND_WRITE, &reader_after(), &new)
+    is_forced(
+        &rt,
+        alloc,
+        &["bundle"],
+        READ_AND_WRITE,
+        &reader_first(),
+        &old,
+    )?;
+    is_forced(
+        &rt,
+        alloc,
+        &["bundle"],
+        READ_AND_WRITE,
+        &writer_first(),
+        &old,
+    )?;
+    is_forced(
+        &rt,
+        alloc,
+        &["bundle"],
+        READ_AND_WRITE,
+        &reader_after(),
+        &new,
+    )
 }
 
 /// Thread 0 writes a variable within a monitor, which thread 1 enters once it has read another.
@@ -167,4 +209,3 @@ fn sixteen_threads_meet(rt: HostRuntime) -> Result<(), Fail> {
     assert!(rt; report.is_some());
     Ok(())
 }
-
