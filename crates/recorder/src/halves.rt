@@ -13,7 +13,6 @@ use std::alloc::Global;
 use std::mem;
 use std::sync::Wait;
 use std::thread::{Threads, join_mut};
-use stride_base::List;
 use stride_isa::Checked;
 
 /// What all threads of a session have in common.
@@ -43,9 +42,8 @@ fn record_one<R: Wait, G: Gate>(
     let mut own = task.shared.split(pass);
     task.shared.draw(&mut own);
     // The lists grow on this thread's stack: in a row of slots the threads would write into each other's lines of memory.
-    let mut log = mem::replace(&mut slot.log, List::new(task.alloc));
-    let mut out = mem::replace(&mut slot.out, List::new(task.alloc));
-    slot.end = record_thread(
+    let free = mem::replace(slot, Slot::empty(task.alloc));
+    *slot = record_thread(
         rt,
         task.shared,
         &mut own,
@@ -53,11 +51,8 @@ fn record_one<R: Wait, G: Gate>(
         thread,
         task.patience,
         task.gate,
-        &mut log,
-        &mut out,
+        free,
     );
-    slot.log = log;
-    slot.out = out;
     task.shared.gather(pass, own);
 }
 

@@ -16,4 +16,5 @@ mod taken;
 pub use gate::{Gate, OpenGate, Point};
 pub use recording::record_thread;
 pub use session::Session;
+pub use slot::Slot;
 pub use taken::Taken;

@@ -1,25 +1,25 @@
 //! Recording one thread.
-ghost use Rattle.std.specs.Prelude.{◌≡◌, ◌*◌, ◌≤◌, [], length};
+ghost use Rattle.std.specs.Prelude.{◌≡◌, ◌≤◌, length};
 ghost use Rattle.stride_isa.specs.Listing.{starts_of};
 ghost use Rattle.sc_machine.specs.ThreadRun.{start_run};
 ghost use Rattle.interleavings.specs.declared.activity.Phase.TheVariants.{Idle};
+ghost use Rattle.recorder.specs.Halves.{IsFree};
 ghost use Rattle.recorder.specs.Threads.{IsFresh, IsThreadRecorded};
 ghost use Rattle.shared_rule.specs.Passes.{IsPassOf, IsSameBeside, monitors_in, starts_in, view_of};
 
 use crate::accesses::{enter, read, update, write};
 use crate::gate::{Gate, Way};
+use crate::slot::Slot;
 use interleavings::{LogEntry, walks_are_followed, walks_go_on, walks_stand};
 use monitors::leave;
-use sc_machine::limits::LINE_LIMIT;
-use sc_machine::{End, Stop, ThreadRun};
+use sc_machine::{Stop, ThreadRun};
 use shared_rule::{Pass, Shared};
 use std::sync::Wait;
-use stride_base::List;
 use stride_isa::each_cell_starts;
 use stride_isa::limits::{FUEL_LIMIT, MONITOR_LIMIT};
 
-/// Records a thread, from its start to its end, on the pass that it is lent. It refuses nothing and takes no memory. It ends as
-/// stopped exactly where it found a monitor held so often in a row as the patience says.
+/// Records a thread, from its start to its end, on the pass that it is lent and into its slot, which is free. It refuses nothing and
+/// takes no memory. It ends as stopped exactly where it found a monitor held so often in a row as the patience says.
 pub fn record_thread<R: Wait, G: Gate>(
     rt: &R,
     shared: &Shared,
@@ -28,9 +28,8 @@ pub fn record_thread<R: Wait, G: Gate>(
     thread: u32,
     patience: u32,
     gate: &G,
-    log: &mut List<LogEntry>,
-    out: &mut List<u8>,
-) -> End
+    slot: Slot,
+) -> Slot
     requires pass { IsPassOf shared.now pass.old }
     requires fresh { IsFresh (view_of pass.old) }
     requires cells { starts_in shared.now ≡ starts_of run.program.decls }
@@ -38,16 +37,13 @@ pub fn record_thread<R: Wait, G: Gate>(
     requires start { run ≡ start_run run.program thread run.fuel }
     requires fuel_limit { run.fuel ≤ FUEL_LIMIT }
     requires patient { 1 ≤ patience }
-    requires log { log.old.items ≡ [] }
-    requires log_room { run.fuel ≤ log.old.spare }
-    requires out { out.old.items ≡ [] }
-    requires out_room { LINE_LIMIT * run.fuel ≤ out.old.spare }
+    requires free { IsFree run.fuel slot }
     ensures pass { IsPassOf shared.now pass.new }
     ensures idle { (view_of pass.new).activity.phase ≡ Idle }
     ensures name { (view_of pass.new).activity.name ≡ (view_of pass.old).activity.name }
     ensures same { IsSameBeside (view_of pass.old) (view_of pass.new) }
-    ensures recorded { IsThreadRecorded (record { program = run.entry.program; fuel = run.entry.fuel; patience = patience }) thread (view_of pass.new).activity log.new.items out.new.items result }
-    ensures short { length log.new.items ≤ run.entry.fuel }
+    ensures recorded { IsThreadRecorded (record { program = run.entry.program; fuel = run.entry.fuel; patience = patience }) thread (view_of pass.new).activity result.log.items result.out.items result.end }
+    ensures short { length result.log.items ≤ run.entry.fuel }
 {
     each_cell_starts();
     walks_are_followed();
@@ -55,9 +51,14 @@ pub fn record_thread<R: Wait, G: Gate>(
     walks_stand();
     let way = Way { gate, thread };
     let mut run = run;
+    let Slot {
+        mut log,
+        mut out,
+        ..
+    } = slot;
     let mut turns = [0; MONITOR_LIMIT];
     for _ in rt.forever() {
-        match run.local(out) {
+        match run.local(&mut out) {
             Stop::Read { cell } => {
                 let (value, bound) = read(rt, shared, pass, &way, cell);
                 log.push_spare(LogEntry::Read { bound, value });
@@ -79,13 +80,16 @@ pub fn record_thread<R: Wait, G: Gate>(
                     log.push_spare(LogEntry::Enter { turn });
                     run.answer(None);
                 }
-                None => return run.give_up(),
+                None => {
+                    let end = run.give_up();
+                    return Slot { log, out, end };
+                }
             },
             Stop::Exit { mon } => {
                 leave(shared, pass, mon, turns[mon as usize]);
                 run.answer(None);
             }
-            Stop::Ended { end } => return end,
+            Stop::Ended { end } => return Slot { log, out, end },
         }
     }
     unreachable!()

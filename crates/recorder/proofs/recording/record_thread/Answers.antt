@@ -15,7 +15,7 @@ pub loop-init : goal.loop-init
 loop-init g c = record {
   iterator = (tt, tt);
   pass = c.requires.pass;
-  under_way = begins c.args.run c.args.thread c.args.out.now c.args.log.now (view_of c.args.pass.now) c.requires.start c.requires.fresh c.requires.out c.requires.out_room c.requires.log c.requires.log_room;
+  under_way = begins c.args.run c.args.thread c.args.slot.out c.args.slot.log (view_of c.args.pass.now) c.requires.start c.requires.fresh c.requires.free.out c.requires.free.out_room c.requires.free.log c.requires.free.log_room;
 }
 
 pub loop-preserved-in-Read : goal.loop-preserved-in-Read
@@ -76,7 +76,7 @@ loop-preserved g c =
 
 pub returns-in-None-enter-clause-recorded : goal.returns-in-None-enter-clause-recorded
 returns-in-None-enter-clause-recorded g c =
-    subst (λ end. IsThreadRecorded (record { program = c.args.run.program; fuel = c.args.run.fuel; patience = c.args.patience }) c.args.thread (view_of c.enter.new.pass).activity c.loop.log.items c.local.new.out.items end) (sym c.give_up.ensures.end)
+    subst (λ end. IsThreadRecorded (record { program = c.args.run.program; fuel = c.args.run.fuel; patience = c.args.patience }) c.args.thread (view_of c.enter.new.pass).activity c.loop.log.items c.local.new.out.items end) (sym c.give_up-end.ensures.end)
     (given_up_recorded c.args.run.program c.args.run.fuel c.args.thread (view_of c.args.pass.now) c.loop.run c.local.new.self c.loop.out c.local.new.out c.loop.log c.loop.turns (view_of c.loop.pass) c.loop.invariant.under_way c.local.ensures.state c.local.ensures.same c.local.ensures.made
     c.in-Enter.mon (sym c.local.ensures.stop ∙ c.in-Enter.is) c.args.patience (view_of c.enter.new.pass) c.in-None-enter.ensures.gave_up c.walks_are_followed.ensures c.walks_stand.ensures)
 
