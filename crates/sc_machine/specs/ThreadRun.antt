@@ -1,10 +1,12 @@
--- What contracts see of a `ThreadRun`: a thread's state without its output, which lies with the caller.
+-- What contracts see of a `ThreadRun`, and of its two parts: a thread's state without its output, which lies with the caller.
 use Rattle.std.specs.Prelude.{◌≡◌, ℕ, ◌<◌, length, List, [], Bool, Option, Some, None}
 use Rattle.stride_isa.specs.Limits.{cell_limit, monitor_limit}
 use Rattle.stride_isa.specs.Listing.{Listing, cell_count}
 use Rattle.sc_machine.specs.declared.end.End.{End}
+use Rattle.sc_machine.specs.declared.frame.Frame.{Frame}
 use Rattle.sc_machine.specs.declared.stop.Stop.{Stop}
 use Rattle.sc_machine.specs.declared.stop.Stop.TheVariants.{Read, Write, Update, Enter, Exit, Ended}
+use Rattle.sc_machine.specs.Operands.{operands}
 use Rattle.sc_machine.specs.ThreadStep.{Thread, start_thread, Stands, now, stop_of, answered}
 
 -- a run of one thread of a program, with its fuel
@@ -18,6 +20,30 @@ pub record Run : Type 0 where
   pub held : List Bool
   pub made : ℕ
   pub ended : Option End
+
+-- a run without its arrays, with the depth of its stack
+pub record RunControl : Type 0 where
+  pub program : Listing
+  pub thread : ℕ
+  pub fuel : ℕ
+  pub pc : ℕ
+  pub depth : ℕ
+  pub made : ℕ
+  pub ended : Option End
+
+-- the run that these two make together
+abbrev pub run_of : RunControl → Frame → Run
+run_of control frame = record {
+  program = control.program;
+  thread = control.thread;
+  fuel = control.fuel;
+  pc = control.pc;
+  stack = operands frame.words control.depth;
+  locals = frame.locals;
+  held = frame.held;
+  made = control.made;
+  ended = control.ended;
+}
 
 -- the thread's state where it has printed this
 abbrev pub state : Run → List ℕ → Thread

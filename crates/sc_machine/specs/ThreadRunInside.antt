@@ -1,4 +1,4 @@
--- What always holds of the fields of a `ThreadRun`. No public clause cites this module.
+-- What always holds of the fields of a `Control`. No public clause cites this module.
 use Rattle.std.specs.Prelude.{◌≡◌, ℕ, ◌<◌, ◌≤◌, Option, None, length}
 use Rattle.stride_isa.specs.Limits.{fuel_limit}
 use Rattle.stride_isa.specs.Listing.{Listing, code_of}

@@ -3,11 +3,14 @@
 //! Owns: the step of a thread (`ThreadStep`), what contracts see of a run of one thread (`ThreadRun`) and of one with its
 //! output (`StandingThread`), the machine (`Machine`), its schedules (`Schedule`), its transcripts (`Transcript`),
 //! turns of one thread in a row (`TurnsInARow`), and the laws of its runs (`Laws`).
-//! The layer above may rely on this: `ThreadRun::local` and `ThreadRun::answer` are the thread step, which a
-//! `StandingThread` makes with the output in its own hands, and whole turns do what the single steps of the machine do.
+//! The layer above may rely on this: `ThreadRun::local` and `ThreadRun::answer` are the thread step, which a `Control` makes on a
+//! `Frame` beside it and a `StandingThread` with the output in its own hands, and whole turns do what the single steps of the
+//! machine do.
 #![tactic(auto)]
 
+mod control;
 mod end;
+mod frame;
 mod instruction;
 mod laws;
 pub mod limits;
@@ -20,7 +23,9 @@ mod task;
 mod thread_run;
 mod trap;
 
+pub use control::Control;
 pub use end::End;
+pub use frame::Frame;
 pub use laws::{
     fuel_is_left, outputs_are_lines, refused_where_stuck, replay_along_turns,
     settled_makes_no_less, settled_prints, settled_stands, starts_settle, turn_by_stop,

@@ -1,18 +1,16 @@
 //! One thread's run.
 ghost use Rattle.std.specs.Prelude.{◌≡◌, ◌+◌, ◌-◌, ◌*◌, ◌≤◌, ◌<◌, Some, length, unwrap_or};
 ghost use Rattle.sc_machine.specs.ThreadStep.{answered, holds, settled};
-ghost use Rattle.sc_machine.specs.ThreadRun.{start_run, state, stop_at, StandsAt, SameThread, IsAnswered, IsShared, TakesWord, NamesCell};
+ghost use Rattle.sc_machine.specs.ThreadRun.{run_of, start_run, state, stop_at, StandsAt, SameThread, IsAnswered, IsShared, TakesWord, NamesCell};
 ghost use Rattle.sc_machine.specs.TurnsInARow.{TookTurns, beside};
 ghost use Rattle.sc_machine.specs.declared.end.End.TheVariants.{Stopped};
 ghost use Rattle.stride_isa.specs.Listing.{cell_count};
 
+use crate::control::Control;
 use crate::end::End;
-use crate::instruction::stop_of;
+use crate::frame::Frame;
 use crate::limits::LINE_LIMIT;
-use crate::operands::Top;
-use crate::running::{Cursor, completed, run_on, run_turns};
 use crate::stop::Stop;
-use crate::task::Task;
 use std::marker::Model;
 use stride_base::List;
 use stride_isa::Checked;
@@ -23,28 +21,21 @@ use stride_isa::limits::{FUEL_LIMIT, LOCAL_COUNT, MONITOR_LIMIT, STACK_LIMIT};
 /// A thread stands at a shared instruction until it is answered or given up. No call takes memory.
 #[derive(Drop)]
 pub struct ThreadRun<'p> {
-    task: Task<'p>,
-    at: Cursor,
-    words: [u64; STACK_LIMIT],
-    locals: [u64; LOCAL_COUNT],
-    held: [bool; MONITOR_LIMIT],
-    ended: Option<End>,
+    control: Control<'p>,
+    frame: Frame,
 }
 
 impl<'p> Model for ThreadRun<'p> {
-    ghost use Rattle.sc_machine.specs.Operands.{operands};
-    ghost use Rattle.sc_machine.specs.ThreadRun.{Run};
-    ghost use Rattle.sc_machine.specs.ThreadRunInside.{IsRun};
+    ghost use Rattle.sc_machine.specs.ThreadRun.{Run, run_of};
 
     ghost Value = { Run };
 
-    ghost view = { λ a. record { program = a.task.program.now; thread = a.task.thread; fuel = a.task.fuel; pc = a.at.pc; stack = operands a.words a.at.top.depth; locals = a.locals; held = a.held; made = a.at.made; ended = a.ended } };
-
-    ghost invariant = { λ a. IsRun a.task.program.now a.task.thread a.task.fuel a.at.pc a.at.top.depth a.at.made a.ended };
+    ghost view = { λ a. run_of a.control a.frame };
 }
 
 impl<'p> ThreadRun<'p> {
     /// The thread at its start, with a fuel of 1 to 1,000,000 instructions.
+    #[tactic(auto, unfolding(crate::specs::Operands::operands))]
     pub fn start(program: &'p Checked, thread: u32, fuel: u32) -> ThreadRun<'p>
         requires thread { thread < length program.now.threads }
         requires some { 1 ≤ fuel }
@@ -52,17 +43,21 @@ impl<'p> ThreadRun<'p> {
         ensures { result ≡ start_run program.now thread fuel }
     {
         ThreadRun {
-            task: Task::new(program, thread, fuel),
-            at: Cursor {
-                pc: 0,
-                made: 0,
-                top: Top::empty(),
+            control: Control::start(program, thread, fuel),
+            frame: Frame {
+                words: [0; STACK_LIMIT],
+                locals: [0; LOCAL_COUNT],
+                held: [false; MONITOR_LIMIT],
             },
-            words: [0; STACK_LIMIT],
-            locals: [0; LOCAL_COUNT],
-            held: [false; MONITOR_LIMIT],
-            ended: None,
         }
+    }
+
+    /// The run in its two parts, for a loop that keeps the first in registers.
+    #[inline(always)]
+    pub fn apart(self) -> (Control<'p>, Frame)
+        ensures { run_of result.0 result.1 ≡ self.entry }
+    {
+        (self.control, self.frame)
     }
 
     /// Makes local instructions up to the next shared one or the end, and tells which it is. What they print is
@@ -83,8 +78,7 @@ impl<'p> ThreadRun<'p> {
         ensures spare { LINE_LIMIT * (self.new.fuel - self.new.made) ≤ out.new.spare }
         ensures used { out.new.spare + length out.new.items ≡ out.old.spare + length out.old.items }
     {
-        self.settle(out);
-        self.stop()
+        self.control.local(&mut self.frame, out)
     }
 
     /// The same as `local`, but does not tell where the thread stands then.
@@ -99,21 +93,7 @@ impl<'p> ThreadRun<'p> {
         ensures spare { LINE_LIMIT * (self.new.fuel - self.new.made) ≤ out.new.spare }
         ensures used { out.new.spare + length out.new.items ≡ out.old.spare + length out.old.items }
     {
-        if self.ended.is_some() {
-            return;
-        }
-        let (at, ended) = run_on(
-            self.task,
-            self.at,
-            &mut self.words,
-            &mut self.locals,
-            &self.held,
-            out,
-        );
-        self.at = at;
-        if let Some(end) = ended {
-            self.ended = Some(end);
-        }
+        self.control.settle(&mut self.frame, out);
     }
 
     /// Where the thread stands. One that has not settled reads as if it had halted.
@@ -123,16 +103,7 @@ impl<'p> ThreadRun<'p> {
         ensures names_cell { NamesCell self.now.program result }
         ensures fuel_left { IsShared result → self.now.made < self.now.fuel }
     {
-        match self.ended {
-            Some(end) => Stop::Ended { end },
-            None => stop_of(
-                self.task.op(self.at.pc),
-                self.task.program,
-                &self.words,
-                self.at.top,
-                &self.held,
-            ),
-        }
+        self.control.stop(&self.frame)
     }
 
     /// Completes the shared instruction at which the thread stands. The word is there exactly for a read or an
@@ -144,16 +115,7 @@ impl<'p> ThreadRun<'p> {
         ensures made { self.new.made ≡ self.old.made + 1 }
         ensures same { SameThread self.old self.new }
     {
-        self.at = completed(
-            self.task,
-            self.at,
-            word.unwrap_or(0),
-            &mut self.words,
-            &mut self.held,
-        );
-        if self.at.made >= self.task.fuel {
-            self.ended = Some(End::OutOfSteps);
-        }
+        self.control.answer(&mut self.frame, word);
     }
 
     /// The same as `answer` and `local` after it, but does not tell where the thread stands then.
@@ -167,30 +129,7 @@ impl<'p> ThreadRun<'p> {
         ensures same { SameThread self.old self.new }
         ensures spare { LINE_LIMIT * (self.new.fuel - self.new.made) ≤ out.new.spare }
     {
-        let next = completed(
-            self.task,
-            self.at,
-            word.unwrap_or(0),
-            &mut self.words,
-            &mut self.held,
-        );
-        if next.made >= self.task.fuel {
-            self.at = next;
-            self.ended = Some(End::OutOfSteps);
-            return;
-        }
-        let (at, ended) = run_on(
-            self.task,
-            next,
-            &mut self.words,
-            &mut self.locals,
-            &self.held,
-            out,
-        );
-        self.at = at;
-        if let Some(end) = ended {
-            self.ended = Some(end);
-        }
+        self.control.go_on(&mut self.frame, word, out);
     }
 
     /// Takes up to this many turns of the thread, which stands, in a row, each at an access to the cells, and tells how many.
@@ -206,22 +145,7 @@ impl<'p> ThreadRun<'p> {
         ensures spare { LINE_LIMIT * (self.new.fuel - self.new.made) ≤ out.new.spare }
         ensures cells { length cells.new ≡ length cells.old }
     {
-        if self.ended.is_some() {
-            return 0;
-        }
-        let (at, left, ended) = run_turns(
-            self.task,
-            self.at,
-            limit,
-            &mut self.words,
-            &mut self.locals,
-            &self.held,
-            cells,
-            out,
-        );
-        self.at = at;
-        self.ended = ended;
-        limit - left
+        self.control.turns(&mut self.frame, limit, cells, out)
     }
 
     /// Ends the thread at the shared instruction where it stands. The instruction is not counted.
@@ -230,16 +154,14 @@ impl<'p> ThreadRun<'p> {
         ensures end { result ≡ Stopped self.old.pc }
         ensures ended { self.new ≡ record self.old { ended = Some (Stopped self.old.pc) } }
     {
-        let end = End::Stopped { pc: self.at.pc };
-        self.ended = Some(end);
-        end
+        self.control.give_up(&self.frame)
     }
 
     /// Whether the thread holds this monitor. It holds none that the program does not have.
     pub fn held(&self, monitor: u32) -> bool
         ensures { result ≡ holds self.now.held monitor }
     {
-        match self.held.get(monitor as usize) {
+        match self.frame.held.get(monitor as usize) {
             Some(held) => *held,
             None => false,
         }
@@ -249,7 +171,7 @@ impl<'p> ThreadRun<'p> {
     pub fn pc(&self) -> u32
         ensures { result ≡ self.now.pc }
     {
-        self.at.pc
+        self.control.pc()
     }
 
     /// A run of the same thread in the same state.
@@ -257,12 +179,8 @@ impl<'p> ThreadRun<'p> {
         ensures { result ≡ self.now }
     {
         ThreadRun {
-            task: self.task,
-            at: self.at,
-            words: self.words,
-            locals: self.locals,
-            held: self.held,
-            ended: self.ended,
+            control: self.control.copy(),
+            frame: self.frame,
         }
     }
 
@@ -270,13 +188,13 @@ impl<'p> ThreadRun<'p> {
     pub fn made(&self) -> u32
         ensures { result ≡ self.now.made }
     {
-        self.at.made
+        self.control.made()
     }
 
     /// The thread's end, or `None` where it has not ended.
     pub fn ended(&self) -> Option<End>
         ensures { result ≡ self.now.ended }
     {
-        self.ended
+        self.control.ended()
     }
 }

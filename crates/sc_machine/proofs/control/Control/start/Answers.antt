@@ -1,5 +1,5 @@
 use Rattle.sc_machine.proofs.Inside.{is_run_at_start}
-use Rattle.sc_machine.proofs.thread_run.ThreadRun.start.Goals as goal
+use Rattle.sc_machine.proofs.control.Control.start.Goals as goal
 
 pub invariant_of-result : goal.invariant_of-result
 invariant_of-result c =

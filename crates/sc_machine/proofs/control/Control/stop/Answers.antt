@@ -1,7 +1,7 @@
 use Rattle.std.proofs.Common.{arith}
 use Rattle.sc_machine.proofs.Inside.{enough_for}
 use Rattle.sc_machine.proofs.RanOn.{length-operands}
-use Rattle.sc_machine.proofs.thread_run.ThreadRun.stop.Goals as goal
+use Rattle.sc_machine.proofs.control.Control.stop.Goals as goal
 
 pub stop_of-requires-clause-enough : goal.stop_of-requires-clause-enough
 stop_of-requires-clause-enough c =
