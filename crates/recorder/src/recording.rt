@@ -50,7 +50,7 @@ pub fn record_thread<R: Wait, G: Gate>(
     walks_go_on();
     walks_stand();
     let way = Way { gate, thread };
-    let mut run = run;
+    let (mut control, mut frame) = run.apart();
     let Slot {
         mut log,
         mut out,
@@ -58,36 +58,36 @@ pub fn record_thread<R: Wait, G: Gate>(
     } = slot;
     let mut turns = [0; MONITOR_LIMIT];
     for _ in rt.forever() {
-        match run.local(&mut out) {
+        match control.local(&mut frame, &mut out) {
             Stop::Read { cell } => {
                 let (value, bound) = read(rt, shared, pass, &way, cell);
                 log.push_spare(LogEntry::Read { bound, value });
-                run.answer(Some(value));
+                control.answer(&mut frame, Some(value));
             }
             Stop::Write { cell, value } => {
                 let number = write(rt, shared, pass, &way, cell, value);
                 log.push_spare(LogEntry::Write { number });
-                run.answer(None);
+                control.answer(&mut frame, None);
             }
             Stop::Update { cell, change } => {
                 let (old, number) = update(rt, shared, pass, &way, cell, change);
                 log.push_spare(LogEntry::Update { number, old });
-                run.answer(Some(old));
+                control.answer(&mut frame, Some(old));
             }
             Stop::Enter { mon } => match enter(rt, shared, pass, &way, mon, patience) {
                 Some(turn) => {
                     turns[mon as usize] = turn;
                     log.push_spare(LogEntry::Enter { turn });
-                    run.answer(None);
+                    control.answer(&mut frame, None);
                 }
                 None => {
-                    let end = run.give_up();
+                    let end = control.give_up(&frame);
                     return Slot { log, out, end };
                 }
             },
             Stop::Exit { mon } => {
                 leave(shared, pass, mon, turns[mon as usize]);
-                run.answer(None);
+                control.answer(&mut frame, None);
             }
             Stop::Ended { end } => return Slot { log, out, end },
         }
