@@ -4,7 +4,7 @@ use Rattle.std.specs.Vec.{with_item}
 use Rattle.std.specs.List.{slice_get, slice_index_or}
 use Rattle.std.proofs.lemmas.Option.{get_or_from_slice_get, slice_get_within}
 use Rattle.std.proofs.lemmas.Bool.Decides.{eqb_tells}
-use Rattle.std.proofs.lemmas.List.{get_or-map, get_or-set_same, get_or-set_other, length-set, length-map, map-set}
+use Rattle.std.proofs.lemmas.List.{get_or-map, get_or-set_same, get_or-set_other, length-set, length-map, map-set, set-get_or}
 use Rattle.stride_base.specs.Listed.{Listed}
 use Rattle.stride_isa.specs.Changes.{applied}
 use Rattle.stride_isa.specs.Limits.{monitor_limit}
@@ -210,10 +210,17 @@ module _ (by_stops : TurnByStop) (table : Table) (t : ℕ) (old new : Player) (t
   pub turn_shown : may_in t stop table.holders ≡ true → (m : Machine) → Shows table m → (can table.program.now t m ≡ true) × Shows table' (turn table.program.now table.fuel t m)
   turn_shown may m shows = turn_taken by_stops table t old new transcript stop m is within whose stands_there names_there may went_at shows
 
+-- a table whose player was only looked at shows what it did
+pub put_back : (table : Table) (t : ℕ) (player : Player) → slice_get table.players.items t ≡ Some player → (m : Machine) → Shows table m → Shows (record { program = table.program; fuel = table.fuel; players = with_item table.players t player; cells = table.cells; holders = table.holders; transcript = table.transcript }) m
+put_back table t player found m shows =
+    let items : List Player = table.players.items in
+    let same : set items t player ≡ items = ap (set items t) (sym (get_or_from_slice_get items t player player found)) ∙ set-get_or items t player in
+    record { threads = shows.threads ∙ ap (map thread_of) (sym same); cells = shows.cells; holders = shows.holders; transcript = shows.transcript }
+
 -- no turn of a thread
-pub no_turns : (table : Table) (t limit : ℕ) (m : Machine) → Shows table m → TookTurns table table t limit 0 m
+pub no_turns : (table same : Table) (t limit : ℕ) (m : Machine) → Shows same m → TookTurns table same t limit 0 m
 unfolding turns
-no_turns table t limit m shows = record { within = omega arith; machine = m; reached = refl; shows = shows }
+no_turns table same t limit m shows = record { within = omega arith; machine = m; reached = refl; shows = shows }
 
 -- a thread of this program took turns in a row, as they are told by the program, the fuel and its number
 record WentBy (p : Listing) (fuel t limit taken : ℕ) (old new : Standing) (cells cells' lines lines' : List ℕ) : Type 0 where

@@ -96,7 +96,14 @@ impl<'p> Table<'p> {
         let Some(player) = self.players.get_mut(thread as usize) else {
             return Ok(0);
         };
-        player.turns(limit, &mut self.cells, &mut self.transcript)
+        match player.thread.stop() {
+            Stop::Read { cell: _ }
+            | Stop::Write { cell: _, value: _ }
+            | Stop::Update { cell: _, change: _ } => {
+                player.turns(limit, &mut self.cells, &mut self.transcript)
+            }
+            Stop::Enter { mon: _ } | Stop::Exit { mon: _ } | Stop::Ended { end: _ } => Ok(0),
+        }
     }
 }
 

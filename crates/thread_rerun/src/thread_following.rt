@@ -32,8 +32,8 @@ pub(crate) fn follow_log(
 {
     event_makes_more();
     loop {
-        let stop = follower.thread.stop();
-        match meet(stop, entry_at(log, follower.place), &follower.turns) {
+        let next = entry_at(log, follower.place);
+        match meet(follower.thread.stop(), next, &follower.turns) {
             Met::Makes { event } => {
                 traces.push(thread, event)?;
                 follower.go(event);
