@@ -1,7 +1,7 @@
 -- What the words of a line set, and what is answered to them.
 use Rattle.std.proofs.Common.{◌≡◌, ◌↔◌, ◌≤◌, inl, inr, ℕ, List, [], ◌∷◌, Option, Some, None, IfSome, refl, subst, arith, unwrap_or}
 use Rattle.command_words.specs.Laws.{OneReading}
-use Rattle.command_words.specs.Words.{IsLine, Sets, Word, form, given}
+use Rattle.command_words.specs.Words.{IsLine, IsNoLine, OfLine, Sets, Word, form, given}
 use Rattle.command_words.specs.declared.options.Setting.TheVariants.{Fuel, Patience}
 use Rattle.command_words.specs.declared.settings.Settings.{Settings}
 use Rattle.stride_cli.specs.declared.status.Status.{Status}
@@ -9,7 +9,6 @@ use Rattle.stride_cli.specs.declared.status.Status.TheVariants.{Done, Usage, Rea
 use Rattle.stride_cli.specs.Answers.{Answer, AnswersWords, refused}
 use Rattle.stride_cli.specs.Settings.{AreInRange, limits_of}
 use Rattle.stride_cli.specs.Telling.{OnMemory}
-use Rattle.stride_cli.specs.Words.{IsNoLine, OfLine}
 
 within : (limit other : ℕ) (words : List Word) (kept : Option ℕ) → 1 ≤ other → other ≤ limit → Sets limit words kept → (1 ≤ unwrap_or kept other) × (unwrap_or kept other ≤ limit)
 within limit other words None some most is = (some, most)
