@@ -1,3 +1,5 @@
+pub mod Deciding
+pub mod Existence
 pub mod Lines
 pub mod Looks
 pub mod Parts

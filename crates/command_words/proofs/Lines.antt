@@ -12,7 +12,9 @@ use Rattle.clap.specs.declared.error.kind.ErrorKind.{ErrorKind}
 use Rattle.clap.specs.declared.error.kind.ErrorKind.TheVariants.{OutOfMemory}
 use Rattle.command_words.specs.App.{line_app}
 use Rattle.command_words.specs.Reading.{IsReading, listed}
-use Rattle.command_words.specs.Words.{Answers, IsLine, Names, Setting, Sets, Word, fuel, patience, form, given, is_positional, live_words, positionals}
+use Rattle.command_words.specs.Words.{Answers, IsLine, Names, Sets, Word, form, given, is_positional, live_words, positionals}
+use Rattle.command_words.specs.declared.options.Setting.{Setting}
+use Rattle.command_words.specs.declared.options.Setting.TheVariants.{Fuel, Patience}
 use Rattle.command_words.specs.declared.settings.Command.{Command}
 use Rattle.command_words.specs.declared.settings.Command.TheVariants.{Demo}
 use Rattle.command_words.specs.declared.settings.Refusal.{Refusal}
@@ -74,8 +76,8 @@ line_means words settings line =
     let values = λ (setting : Setting). given setting line.items in
     let places = positionals line.items line.rest in
     subst (λ (rs : List Row). Means rs settings) (sym (matches_are words ∙ ap (final start) line.spelled)) (record {
-      fuel = subst (λ (l : List Word). Sets (form fuel).limit l settings.fuel) (sym (option_is rows values places book fuel)) (line.options fuel);
-      patience = subst (λ (l : List Word). Sets (form patience).limit l settings.patience) (sym (option_is rows values places book patience)) (line.options patience);
+      fuel = subst (λ (l : List Word). Sets (form Fuel).limit l settings.fuel) (sym (option_is rows values places book Fuel)) (line.options Fuel);
+      patience = subst (λ (l : List Word). Sets (form Patience).limit l settings.patience) (sym (option_is rows values places book Patience)) (line.options Patience);
       command = subst (Names settings.command) (sym (positionals_are rows values places book)) line.command;
     })
 
@@ -104,8 +106,8 @@ meant_line words settings clear means =
       rest = parts.rest;
       spelled = parts.spelled;
       options = λ setting. elim setting as (λ s. Sets (form s).limit (given s parts.items) ((form s).kept settings)) [
-        | fuel ↦ subst (λ (l : List Word). Sets (form fuel).limit l settings.fuel) (option_is rows values places book fuel) meant.fuel
-        | patience ↦ subst (λ (l : List Word). Sets (form patience).limit l settings.patience) (option_is rows values places book patience) meant.patience
+        | Fuel ↦ subst (λ (l : List Word). Sets (form Fuel).limit l settings.fuel) (option_is rows values places book Fuel) meant.fuel
+        | Patience ↦ subst (λ (l : List Word). Sets (form Patience).limit l settings.patience) (option_is rows values places book Patience) meant.patience
       ];
       undashed = names_undashed settings.command places named;
       command = named;

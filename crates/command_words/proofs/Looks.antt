@@ -8,7 +8,9 @@ use Rattle.std.proofs.lemmas.Bool.{eqb-true}
 use Rattle.clap.specs.Faults.{bundle_fault, bundle_step_fault, flag_word_fault, flags_fault, long_fault, other_fault}
 use Rattle.clap.specs.Lexer.{has_byte, long_of, long_of_rest, short_of, short_of_rest, strip_byte}
 use Rattle.clap.specs.Walk.{Held, Outcome, Row, Rule, Text, after_flag, arg_by_long, bundle, bundle_met, bundle_step, long_or_other, plain, short_or_plain, trailing}
-use Rattle.command_words.specs.Words.{Setting, fuel, patience, flag}
+use Rattle.command_words.specs.Words.{flag}
+use Rattle.command_words.specs.declared.options.Setting.{Setting}
+use Rattle.command_words.specs.declared.options.Setting.TheVariants.{Fuel, Patience}
 use Rattle.command_words.proofs.Rows.{built_option, eq_bytes, name, rules}
 use Rattle.command_words.proofs.Steps.{IsOdd, IsTaken, hold, top}
 
@@ -112,7 +114,7 @@ parted (byte ∷ text) some = go (byte == 61) refl some (parted text)
 
 no_long : (text : Text) → bytes_eq (codes "fuel") text ≡ false → bytes_eq (codes "patience") text ≡ false → arg_by_long rules text ≡ None
 no_long text one two =
-    ap₂ (λ (a b : Bool). cond (a || false) (Some (built_option fuel)) (cond (b || false) (Some (built_option patience)) None)) one two
+    ap₂ (λ (a b : Bool). cond (a || false) (Some (built_option Fuel)) (cond (b || false) (Some (built_option Patience)) None)) one two
 
 -- after `--` there is more
 named_word : (setting : Setting) (text : Text) → name setting ≡ front text → Look (45 ∷ 45 ∷ text)
@@ -126,8 +128,8 @@ look_long : (first : ℕ) (rest : Text) → Look (45 ∷ 45 ∷ first ∷ rest)
 look_long first rest = go (bytes_eq (codes "fuel") (front (first ∷ rest))) (bytes_eq (codes "patience") (front (first ∷ rest))) refl refl
   where
     go : (a b : Bool) → bytes_eq (codes "fuel") (front (first ∷ rest)) ≡ a → bytes_eq (codes "patience") (front (first ∷ rest)) ≡ b → Look (45 ∷ 45 ∷ first ∷ rest)
-    go true b one two = named_word fuel (first ∷ rest) (eq_bytes (codes "fuel") (front (first ∷ rest)) one)
-    go false true one two = named_word patience (first ∷ rest) (eq_bytes (codes "patience") (front (first ∷ rest)) two)
+    go true b one two = named_word Fuel (first ∷ rest) (eq_bytes (codes "fuel") (front (first ∷ rest)) one)
+    go false true one two = named_word Patience (first ∷ rest) (eq_bytes (codes "patience") (front (first ∷ rest)) two)
     go false false one two = odd (record {
       refused = λ rows pending clear.
           let step = ap (λ (o : Option Rule). long_fault rules false o (cond (has_byte 61 (first ∷ rest)) (Some (back (first ∷ rest))) None) (hold rows pending)) (no_long (front (first ∷ rest)) one two) in

@@ -4,7 +4,9 @@ use Rattle.std.specs.List.{flat_map}
 use Rattle.clap.specs.Faults.{use_fault}
 use Rattle.clap.specs.Kinds.{or_else}
 use Rattle.clap.specs.Walk.{Row, Text, Waiting, idle, option, positional, used}
-use Rattle.command_words.specs.Words.{Item, Setting, Word, fuel, patience, spaced, joined, positional as plain_item, ending, flag, given, positionals, spelling}
+use Rattle.command_words.specs.Words.{Item, Word, spaced, joined, positional as plain_item, ending, flag, given, positionals, spelling}
+use Rattle.command_words.specs.declared.options.Setting.{Setting}
+use Rattle.command_words.specs.declared.options.Setting.TheVariants.{Fuel, Patience}
 use Rattle.command_words.proofs.Looks.{bare, dashes, joint, look, odd, taken}
 use Rattle.command_words.proofs.Rows.{Book, book_option, book_positional, book_same, built_option, name, one_value, used_once}
 use Rattle.command_words.proofs.Steps.{IsClear, IsTaken, after_joint, after_positional, at, both_clear, final, final_step, goes_bare, goes_dashes, goes_joint, goes_taken, goes_trailing, goes_value, odd_stops, or_else_nil, settled_at, settling, total, total_end, total_step}
@@ -12,17 +14,17 @@ use Rattle.command_words.proofs.Steps.{IsClear, IsTaken, after_joint, after_posi
 -- ---- what is pending
 
 pub settles_option : (setting : Setting) (word : Word) (rows : List Row) → settled_at rows (Some (name setting, word ∷ [])) ≡ used (built_option setting) (word ∷ []) rows
-settles_option fuel word rows = refl
-settles_option patience word rows = refl
+settles_option Fuel word rows = refl
+settles_option Patience word rows = refl
 
 pub option_fault_is : (setting : Setting) (word : Word) (rows : List Row) → settling rows (Some (name setting, word ∷ [])) ≡ use_fault false (built_option setting) (word ∷ []) rows
-option_fault_is fuel word rows = refl
-option_fault_is patience word rows = refl
+option_fault_is Fuel word rows = refl
+option_fault_is Patience word rows = refl
 
 -- an option whose value doesn't come is refused
 no_value : (setting : Setting) (rows : List Row) → settling rows (Some (name setting, [])) ≡ [] → ⊥
-no_value fuel rows clear = absurd (cc)
-no_value patience rows clear = absurd (cc)
+no_value Fuel rows clear = absurd (cc)
+no_value Patience rows clear = absurd (cc)
 
 -- ---- after a `--`
 

@@ -14,7 +14,9 @@ use Rattle.clap.specs.declared.builder.value_parser.Reading.{Reading}
 use Rattle.clap.specs.declared.parser.matches.ValueSource.{ValueSource}
 use Rattle.clap.specs.declared.parser.matches.ValueSource.TheVariants.{CommandLine}
 use Rattle.command_words.specs.App.{option_rule, positional_rule}
-use Rattle.command_words.specs.Words.{Setting, fuel, patience, Word, form, is_same}
+use Rattle.command_words.specs.Words.{Word, form, is_same}
+use Rattle.command_words.specs.declared.options.Setting.{Setting}
+use Rattle.command_words.specs.declared.options.Setting.TheVariants.{Fuel, Patience}
 
 -- the rules as `clap` builds them
 abbrev pub built_option : Setting → Rule
@@ -24,7 +26,7 @@ abbrev pub built_positional : Rule
 built_positional = with_index 1 (filled positional_rule)
 
 abbrev pub rules : List Rule
-rules = built_option fuel ∷ built_option patience ∷ built_positional ∷ []
+rules = built_option Fuel ∷ built_option Patience ∷ built_positional ∷ []
 
 abbrev pub name : Setting → Text
 name setting = (form setting).name
@@ -77,8 +79,8 @@ module _ (id : Text) (how : Reading) (source : ValueSource) (values : List Text)
 -- ---- uses of the options and of the positional
 
 pub name_is_same : (setting : Setting) → bytes_eq (name setting) (name setting) ≡ true
-name_is_same fuel = refl
-name_is_same patience = refl
+name_is_same Fuel = refl
+name_is_same Patience = refl
 
 -- whether there are values of an id
 has_row_is : (id : Text) (rows : List Row) → has_row id rows ≡ is_some (all_of id rows)
@@ -143,8 +145,8 @@ book_positional rows values words word book = record {
 }
   where
     others : (setting : Setting) → all_of (name setting) (used built_positional (word ∷ []) rows) ≡ all_of (name setting) rows
-    others fuel = others_stay (codes "command") _ _ (word ∷ []) (codes "fuel") rows refl
-    others patience = others_stay (codes "command") _ _ (word ∷ []) (codes "patience") rows refl
+    others Fuel = others_stay (codes "command") _ _ (word ∷ []) (codes "fuel") rows refl
+    others Patience = others_stay (codes "command") _ _ (word ∷ []) (codes "patience") rows refl
 
 -- the value that a use of an option gives to each option
 abbrev pub one_value : Setting → Word → Setting → List Word
@@ -184,25 +186,25 @@ module _ (rows : List Row) (values : Setting → List Word) (words : List Word) 
 
 pub book_option : (rows : List Row) (values : Setting → List Word) (words : List Word) (setting : Setting) (value : Word) → all_of (name setting) rows ≡ None → Book rows values words
     → Book (used (built_option setting) (value ∷ []) rows) (λ other. values other ++ one_value setting value other) words
-book_option rows values words fuel value none book = record {
-  options = λ other. elim other as (λ s. all_of (name s) (used (built_option fuel) (value ∷ []) rows) ≡ several (values s ++ one_value fuel value s)) [
-    | fuel ↦ own_value rows values words fuel value none book
-    | patience ↦ other_option rows values words fuel value none book patience refl
+book_option rows values words Fuel value none book = record {
+  options = λ other. elim other as (λ s. all_of (name s) (used (built_option Fuel) (value ∷ []) rows) ≡ several (values s ++ one_value Fuel value s)) [
+    | Fuel ↦ own_value rows values words Fuel value none book
+    | Patience ↦ other_option rows values words Fuel value none book Patience refl
   ];
-  once = λ other. elim other as (λ s. length (values s ++ one_value fuel value s) ≤ 1) [
-    | fuel ↦ own_once rows values words fuel value none book
-    | patience ↦ other_once rows values words fuel value none book patience
+  once = λ other. elim other as (λ s. length (values s ++ one_value Fuel value s) ≤ 1) [
+    | Fuel ↦ own_once rows values words Fuel value none book
+    | Patience ↦ other_once rows values words Fuel value none book Patience
   ];
-  positionals = other_values rows values words fuel value none book (codes "command") refl ∙ book.positionals;
+  positionals = other_values rows values words Fuel value none book (codes "command") refl ∙ book.positionals;
 }
-book_option rows values words patience value none book = record {
-  options = λ other. elim other as (λ s. all_of (name s) (used (built_option patience) (value ∷ []) rows) ≡ several (values s ++ one_value patience value s)) [
-    | fuel ↦ other_option rows values words patience value none book fuel refl
-    | patience ↦ own_value rows values words patience value none book
+book_option rows values words Patience value none book = record {
+  options = λ other. elim other as (λ s. all_of (name s) (used (built_option Patience) (value ∷ []) rows) ≡ several (values s ++ one_value Patience value s)) [
+    | Fuel ↦ other_option rows values words Patience value none book Fuel refl
+    | Patience ↦ own_value rows values words Patience value none book
   ];
-  once = λ other. elim other as (λ s. length (values s ++ one_value patience value s) ≤ 1) [
-    | fuel ↦ other_once rows values words patience value none book fuel
-    | patience ↦ own_once rows values words patience value none book
+  once = λ other. elim other as (λ s. length (values s ++ one_value Patience value s) ≤ 1) [
+    | Fuel ↦ other_once rows values words Patience value none book Fuel
+    | Patience ↦ own_once rows values words Patience value none book
   ];
-  positionals = other_values rows values words patience value none book (codes "command") refl ∙ book.positionals;
+  positionals = other_values rows values words Patience value none book (codes "command") refl ∙ book.positionals;
 }

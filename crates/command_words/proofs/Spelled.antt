@@ -7,7 +7,9 @@ use Rattle.std.specs.Char.{digit_value}
 use Rattle.clap.specs.Kinds.{Kinds, or_else}
 use Rattle.clap.specs.Walk.{Row, Text, Waiting, all_of, idle, positional, used}
 use Rattle.clap.proofs.WalkLemmas.{both}
-use Rattle.command_words.specs.Words.{IsDecimal, Item, Setting, Sets, Word, fuel, patience, spaced, joined, positional as plain_item, behind, ending, flag, given, is_positional, positional_in, positionals, spelling}
+use Rattle.command_words.specs.Words.{IsDecimal, Item, Sets, Word, spaced, joined, positional as plain_item, behind, ending, flag, given, is_positional, positional_in, positionals, spelling}
+use Rattle.command_words.specs.declared.options.Setting.{Setting}
+use Rattle.command_words.specs.declared.options.Setting.TheVariants.{Fuel, Patience}
 use Rattle.command_words.proofs.Looks.{empty_taken, undashed_reads}
 use Rattle.command_words.proofs.Parts.{option_fault_is, settles_option, trailing_books, trailing_fault}
 use Rattle.command_words.proofs.Rows.{Book, book_option, book_positional, book_same, built_option, first_use, name, one_value, several}
@@ -69,8 +71,8 @@ all_before (word ∷ front) back all =
     ap₂ (λ (a b : Bool). a && b) parts.0 (all_before front back parts.1)
 
 own_undashed : (setting : Setting) (value : Word) (more : List Word) → list_all is_positional (one_value setting value setting ++ more) ≡ true → is_positional value ≡ true
-own_undashed fuel value more all = (both _ _ all).0
-own_undashed patience value more all = (both _ _ all).0
+own_undashed Fuel value more all = (both _ _ all).0
+own_undashed Patience value more all = (both _ _ all).0
 
 all_fit : (items : List Item) → ((setting : Setting) → list_all is_positional (given setting items) ≡ true) → list_all is_positional (flat_map positional_in items) ≡ true → AllFit items
 all_fit [] values words = tt
@@ -94,8 +96,8 @@ clear_both one two first second = ap₂ or_else first second
 
 no_value_before : (setting : Setting) (value : Word) (before more : List Word) → length (before ++ (one_value setting value setting ++ more)) ≤ 1 → before ≡ []
 no_value_before setting value [] more once = refl
-no_value_before fuel value (word ∷ words) more once = absurd (omega (arith, length-append words (value ∷ more)))
-no_value_before patience value (word ∷ words) more once = absurd (omega (arith, length-append words (value ∷ more)))
+no_value_before Fuel value (word ∷ words) more once = absurd (omega (arith, length-append words (value ∷ more)))
+no_value_before Patience value (word ∷ words) more once = absurd (omega (arith, length-append words (value ∷ more)))
 
 -- the words of items, and of what stands behind them
 abbrev pub line_words : List Item → Option (List Word) → List Word

@@ -8,7 +8,9 @@ use Rattle.clap.specs.Simple.{Shape, built, entered, matches_of}
 use Rattle.clap.specs.Walk.{Held, Row, Rule, Step, Text, Waiting, Walk, after_step, finished, idle, option, positional, plain_word, positional_held, has_row, is_empty, is_pending, pushed, settled, settled_rows, subcommand_met, subcommand_or_other, used, value, walked, with_default, word_met}
 use Rattle.clap.proofs.WalkLemmas.{both}
 use Rattle.command_words.specs.App.{line_app}
-use Rattle.command_words.specs.Words.{Setting, fuel, patience, flag}
+use Rattle.command_words.specs.Words.{flag}
+use Rattle.command_words.specs.declared.options.Setting.{Setting}
+use Rattle.command_words.specs.declared.options.Setting.TheVariants.{Fuel, Patience}
 use Rattle.command_words.proofs.Rows.{built_option, built_positional, name, rules}
 
 abbrev pub top : Shape
@@ -89,10 +91,10 @@ same_rows rows false = refl
 pub matches_are : (words : List Text) → matches_of line_app words ≡ final start words
 matches_are words =
     let rows = final start words in
-    let first : with_default rows (built_option fuel) ≡ rows = same_rows rows (has_row (name fuel) rows) in
-    let second : with_default rows (built_option patience) ≡ rows = same_rows rows (has_row (name patience) rows) in
+    let first : with_default rows (built_option Fuel) ≡ rows = same_rows rows (has_row (name Fuel) rows) in
+    let second : with_default rows (built_option Patience) ≡ rows = same_rows rows (has_row (name Patience) rows) in
     let third : with_default rows built_positional ≡ rows = same_rows rows (has_row (codes "command") rows) in
-    ap (λ (rs : List Row). with_default (with_default rs (built_option patience)) built_positional) first ∙ ap (λ (rs : List Row). with_default rs built_positional) second ∙ third
+    ap (λ (rs : List Row). with_default (with_default rs (built_option Patience)) built_positional) first ∙ ap (λ (rs : List Row). with_default rs built_positional) second ∙ third
 
 -- ---- one word
 
@@ -180,12 +182,12 @@ module _ (rows : List Row) (pending : Option (Text × List Text)) where
   pub goes_bare : (waiting : Waiting) (setting : Setting)
       → Goes (at rows pending waiting false) (flag setting) (settling rows pending) (at (settled_at rows pending) (Some (name setting, [])) (option (name setting)) false)
   unfolding walked
-  goes_bare idle fuel = record { fault_is = or_else_nil _; next_is = refl }
-  goes_bare positional fuel = record { fault_is = or_else_nil _; next_is = refl }
-  goes_bare (option id) fuel = record { fault_is = or_else_nil _; next_is = refl }
-  goes_bare idle patience = record { fault_is = or_else_nil _; next_is = refl }
-  goes_bare positional patience = record { fault_is = or_else_nil _; next_is = refl }
-  goes_bare (option id) patience = record { fault_is = or_else_nil _; next_is = refl }
+  goes_bare idle Fuel = record { fault_is = or_else_nil _; next_is = refl }
+  goes_bare positional Fuel = record { fault_is = or_else_nil _; next_is = refl }
+  goes_bare (option id) Fuel = record { fault_is = or_else_nil _; next_is = refl }
+  goes_bare idle Patience = record { fault_is = or_else_nil _; next_is = refl }
+  goes_bare positional Patience = record { fault_is = or_else_nil _; next_is = refl }
+  goes_bare (option id) Patience = record { fault_is = or_else_nil _; next_is = refl }
 
   abbrev pub joint_fault : Setting → Text → Kinds
   joint_fault setting word = or_else (settling rows pending) (use_fault false (built_option setting) (word ∷ []) (settled_at rows pending))
@@ -195,22 +197,22 @@ module _ (rows : List Row) (pending : Option (Text × List Text)) where
 
   pub goes_joint : (waiting : Waiting) (setting : Setting) (word : Text) → Goes (at rows pending waiting false) (flag setting ++ codes "=" ++ word) (joint_fault setting word) (after_joint setting word)
   unfolding walked
-  goes_joint idle fuel word = record { fault_is = or_else_nil _; next_is = refl }
-  goes_joint positional fuel word = record { fault_is = or_else_nil _; next_is = refl }
-  goes_joint (option id) fuel word = record { fault_is = or_else_nil _; next_is = refl }
-  goes_joint idle patience word = record { fault_is = or_else_nil _; next_is = refl }
-  goes_joint positional patience word = record { fault_is = or_else_nil _; next_is = refl }
-  goes_joint (option id) patience word = record { fault_is = or_else_nil _; next_is = refl }
+  goes_joint idle Fuel word = record { fault_is = or_else_nil _; next_is = refl }
+  goes_joint positional Fuel word = record { fault_is = or_else_nil _; next_is = refl }
+  goes_joint (option id) Fuel word = record { fault_is = or_else_nil _; next_is = refl }
+  goes_joint idle Patience word = record { fault_is = or_else_nil _; next_is = refl }
+  goes_joint positional Patience word = record { fault_is = or_else_nil _; next_is = refl }
+  goes_joint (option id) Patience word = record { fault_is = or_else_nil _; next_is = refl }
 
 -- a word that is the value of an option
 pub goes_value : (rows : List Row) (setting : Setting) (word : Text) → IsTaken word
     → Goes (at rows (Some (name setting, [])) (option (name setting)) false) word [] (at rows (Some (name setting, word ∷ [])) idle false)
 unfolding walked
-goes_value rows fuel word taken = record {
+goes_value rows Fuel word taken = record {
   fault_is = ap₂ (λ (k : Kinds) (m : Held × Step). or_else k (step_fault top 1 m.0 m.1)) (taken.clear rows _) (taken.plain (option (codes "fuel")) rows _);
   next_is = ap (λ (m : Held × Step). after_step rules word (at rows (Some (codes "fuel", [])) (option (codes "fuel")) false) m.0 m.1) (taken.plain (option (codes "fuel")) rows _);
 }
-goes_value rows patience word taken = record {
+goes_value rows Patience word taken = record {
   fault_is = ap₂ (λ (k : Kinds) (m : Held × Step). or_else k (step_fault top 1 m.0 m.1)) (taken.clear rows _) (taken.plain (option (codes "patience")) rows _);
   next_is = ap (λ (m : Held × Step). after_step rules word (at rows (Some (codes "patience", [])) (option (codes "patience")) false) m.0 m.1)
       (taken.plain (option (codes "patience")) rows _);

@@ -7,7 +7,8 @@ use Rattle.clap.specs.Walk.{first_of}
 use Rattle.command_words.specs.App.{line_app}
 use Rattle.command_words.specs.Laws.{OneReading}
 use Rattle.command_words.specs.Reading.{listed}
-use Rattle.command_words.specs.Words.{Names, Sets, Word, fuel, patience, form, live_words}
+use Rattle.command_words.specs.Words.{Names, Sets, Word, form, live_words}
+use Rattle.command_words.specs.declared.options.Setting.TheVariants.{Fuel, Patience}
 use Rattle.command_words.specs.declared.settings.Command.{Command}
 use Rattle.command_words.specs.declared.settings.Command.TheVariants.{Check, Follow, Sim, Run, Bundle, Infer, Replay, Show, Upgrade, Demo}
 use Rattle.command_words.proofs.Lines.{line_means}
@@ -63,7 +64,7 @@ one_reading_proof words one other first second =
     let meant = line_means words one first in
     let told = line_means words other second in
     let rows = matches_of line_app words in
-    let fuel_is : one.fuel ≡ other.fuel = one_value (form fuel).limit (listed (first_of (codes "fuel") rows)) one.fuel other.fuel meant.fuel told.fuel in
-    let patience_is : one.patience ≡ other.patience = one_value (form patience).limit (listed (first_of (codes "patience") rows)) one.patience other.patience meant.patience told.patience in
+    let fuel_is : one.fuel ≡ other.fuel = one_value (form Fuel).limit (listed (first_of (codes "fuel") rows)) one.fuel other.fuel meant.fuel told.fuel in
+    let patience_is : one.patience ≡ other.patience = one_value (form Patience).limit (listed (first_of (codes "patience") rows)) one.patience other.patience meant.patience told.patience in
     let command_is : one.command ≡ other.command = one_command one.command other.command _ meant.command told.command in
     λ i. record { command = command_is i; fuel = fuel_is i; patience = patience_is i }

@@ -3,7 +3,9 @@ use Rattle.std.specs.Prelude.{Some, true, codes}
 use Rattle.clap.specs.Simple.{App, new_app, new_rule, on_top, with_rule}
 use Rattle.clap.specs.Walk.{Rule}
 use Rattle.clap.specs.declared.builder.action.ArgAction.TheVariants.{Append, Set}
-use Rattle.command_words.specs.Words.{Setting, fuel, patience, form}
+use Rattle.command_words.specs.Words.{form}
+use Rattle.command_words.specs.declared.options.Setting.{Setting}
+use Rattle.command_words.specs.declared.options.Setting.TheVariants.{Fuel, Patience}
 
 -- an option with one value
 abbrev pub option_rule : Setting → Rule
@@ -19,4 +21,4 @@ plain_app = on_top (λ shape. record shape { no_binary_name = true; disable_help
 
 -- that command with the two options and the positional
 abbrev pub line_app : App
-line_app = with_rule (with_rule (with_rule plain_app (option_rule fuel)) (option_rule patience)) positional_rule
+line_app = with_rule (with_rule (with_rule plain_app (option_rule Fuel)) (option_rule Patience)) positional_rule

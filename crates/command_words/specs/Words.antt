@@ -7,6 +7,8 @@ use Rattle.stride_isa.specs.declared.limits.TheConstants.{FUEL_LIMIT}
 use Rattle.interleavings.specs.declared.limits.TheConstants.{PATIENCE_LIMIT}
 use Rattle.command_words.specs.declared.settings.Command.{Command}
 use Rattle.command_words.specs.declared.settings.Command.TheVariants.{Check, Follow, Sim, Run, Bundle, Infer, Replay, Show, Upgrade, Demo}
+use Rattle.command_words.specs.declared.options.Setting.{Setting}
+use Rattle.command_words.specs.declared.options.Setting.TheVariants.{Fuel, Patience}
 use Rattle.command_words.specs.declared.settings.Settings.{Settings}
 use Rattle.command_words.specs.declared.settings.Refusal.{Refusal}
 use Rattle.command_words.specs.declared.settings.Refusal.TheVariants.{Usage, NoMemory}
@@ -21,11 +23,6 @@ IsDecimal word n = IsNumeral 10 word × (digits_value 10 word ≡ n)
 
 -- ---- options
 
--- what an option sets
-pub data Setting : Type 0 where
-  fuel : Setting
-  patience : Setting
-
 -- an option: its name, the largest value that it takes, and where that is kept
 pub record Form : Type 0 where
   pub name : Word
@@ -34,8 +31,8 @@ pub record Form : Type 0 where
 
 -- the options
 abbrev pub form : Setting → Form
-form fuel = record { name = codes "fuel"; limit = FUEL_LIMIT; kept = λ settings. settings.fuel }
-form patience = record { name = codes "patience"; limit = PATIENCE_LIMIT; kept = λ settings. settings.patience }
+form Fuel = record { name = codes "fuel"; limit = FUEL_LIMIT; kept = λ settings. settings.fuel }
+form Patience = record { name = codes "patience"; limit = PATIENCE_LIMIT; kept = λ settings. settings.patience }
 
 -- whether they are one option
 abbrev pub is_same : Setting → Setting → Bool
@@ -127,6 +124,18 @@ pub record IsLine (words : List Word) (settings : Settings) : Type 0 where
   pub options : (setting : Setting) → Sets (form setting).limit (given setting items) ((form setting).kept settings)
   pub undashed : list_all is_positional (positionals items rest) ≡ true
   pub command : Names settings.command (positionals items rest)
+
+-- the words are a line of the grammar, with some settings
+abbrev pub HasLine : List Word → Type 0
+HasLine words = (settings : Settings) × IsLine words settings
+
+-- a fact about the settings of the words, where these are a line of the grammar
+abbrev pub OfLine : List Word → (Settings → Type 0) → Type 0
+OfLine words Holds = (settings : Settings) → IsLine words settings → Holds settings
+
+-- the words are no line of the grammar
+abbrev pub IsNoLine : List Word → Type 0
+IsNoLine words = OfLine words (λ _. ⊥)
 
 -- ---- answers
 

@@ -1,36 +1,46 @@
 //! The words as `clap` reads them.
-ghost use Rattle.std.specs.Prelude.{◌≡◌, ◌↔◌, IfOk, map};
+ghost use Rattle.std.specs.Prelude.{◌≡◌, ◌↔◌, IfOk, false, map};
 ghost use Rattle.clap.specs.Faults.{fault_of};
 ghost use Rattle.clap.specs.Kinds.{FailsBy};
 ghost use Rattle.clap.specs.Matches.{found_of};
 ghost use Rattle.clap.specs.Simple.{matches_of};
 ghost use Rattle.clap.specs.Values.{kind_of};
-ghost use Rattle.clap.specs.Walk.{rows_of};
-ghost use Rattle.command_words.specs.App.{line_app};
+ghost use Rattle.clap.specs.Walk.{rows_of, rule_of};
+ghost use Rattle.command_words.specs.App.{line_app, option_rule};
 ghost use Rattle.command_words.specs.Words.{Words};
 
+use crate::options::Setting;
 use crate::settings::{Refusal, Settings};
 use crate::values::settings_of;
 use clap::error::ErrorKind;
 use clap::{Arg, ArgAction, ArgMatches, Error};
 use std::alloc::Global;
 
+/// The name of the positionals.
+const COMMAND: &str = "command";
+
+/// An option with one value.
+fn option_of(alloc: Global, setting: Setting) -> Arg<'static>
+    ensures rule { rule_of result ≡ option_rule setting }
+    ensures global { result.global ≡ false }
+{
+    Arg::new(alloc, setting.name())
+        .long(setting.name())
+        .action(ArgAction::Set)
+}
+
 /// The words as one simple command with two options, and with positionals that options may stand between.
 fn parse<'a>(alloc: Global, words: &'a [&'a str]) -> Result<ArgMatches<'a>, Error>
     ensures matches { IfOk result (λ m. rows_of (found_of m) ≡ matches_of line_app (map (λ word. word.now) words.entry.now)) }
     ensures kinds { FailsBy (fault_of line_app (map (λ word. word.now) words.entry.now)) result }
 {
-    let fuel = Arg::new(alloc, "fuel").long("fuel").action(ArgAction::Set);
-    let patience = Arg::new(alloc, "patience")
-        .long("patience")
-        .action(ArgAction::Set);
-    let command = Arg::new(alloc, "command").action(ArgAction::Append);
+    let command = Arg::new(alloc, COMMAND).action(ArgAction::Append);
     clap::Command::new(alloc, "stride")
         .no_binary_name(true)
         .disable_help_flag(true)
         .disable_version_flag(true)
-        .arg(fuel)?
-        .arg(patience)?
+        .arg(option_of(alloc, Setting::Fuel))?
+        .arg(option_of(alloc, Setting::Patience))?
         .arg(command)?
         .try_get_matches_from(words)
 }
@@ -57,8 +67,8 @@ pub fn read_words(alloc: Global, words: &[&str]) -> Result<Settings, Refusal>
         Err(error) => return Err(refusal_of(&error)),
     };
     settings_of(
-        matches.get_str("fuel"),
-        matches.get_str("patience"),
-        matches.get_strs("command").unwrap_or_default(),
+        matches.get_str(Setting::Fuel.name()),
+        matches.get_str(Setting::Patience.name()),
+        matches.get_strs(COMMAND).unwrap_or_default(),
     )
 }

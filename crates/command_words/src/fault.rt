@@ -1,10 +1,9 @@
 //! What is wrong with words that are no line of the grammar, for the one line that tells the user: a word is told with its line feeds
 //! and other control characters escaped. No clause says it: the words are refused by `read_words` alone.
 
-use crate::values::decimal;
-use interleavings::PATIENCE_LIMIT;
+use crate::options::Setting;
+use crate::values::{DEMO, LIVE, decimal, plain_command, value_of};
 use std::fmt;
-use stride_isa::limits::FUEL_LIMIT;
 
 /// What is wrong with the words of a command line.
 #[derive(Clone, Copy, Debug, PartialEq, Eq)]
@@ -16,17 +15,15 @@ pub enum Fault<'w> {
     /// The word names no option.
     UnknownOption { word: &'w str },
     /// The option has no value.
-    NoValue { option: &'w str },
+    NoValue { option: Setting },
     /// The option stands twice.
-    Twice { option: &'w str },
-    /// The option's value is no number from 1 to `limit`.
-    OutOfRange { option: &'w str, limit: u32 },
+    Twice { option: Setting },
+    /// The option's value is no number from 1 to its limit.
+    OutOfRange { option: Setting },
     /// The demonstration has no number of a `u64`.
     NoNumber,
     /// The word stands where the command takes no more.
     OneTooMany { word: &'w str },
-    /// Something else.
-    Other,
 }
 
 impl fmt::Display for Fault<'_> {
@@ -39,45 +36,75 @@ impl fmt::Display for Fault<'_> {
             Fault::UnknownOption { word } => {
                 write!(f, "`{word}` is no option", word = word.escape_debug())
             }
-            Fault::NoValue { option } => write!(f, "`--{option}` has no value"),
-            Fault::Twice { option } => write!(f, "`--{option}` stands twice"),
-            Fault::OutOfRange { option, limit } => {
-                write!(f, "`--{option}` takes a number from 1 to {limit}")
+            Fault::NoValue { option } => {
+                write!(f, "`--{name}` has no value", name = option.name())
             }
-            Fault::NoNumber => write!(f, "`demo` takes a number from 0 to {}", u64::MAX),
+            Fault::Twice { option } => write!(f, "`--{name}` stands twice", name = option.name()),
+            Fault::OutOfRange { option } => write!(
+                f,
+                "`--{name}` takes a number from 1 to {limit}",
+                name = option.name(),
+                limit = option.limit()
+            ),
+            Fault::NoNumber => write!(f, "`{DEMO}` takes a number from 0 to {}", u64::MAX),
             Fault::OneTooMany { word } => write!(
                 f,
                 "the command takes no word `{word}`",
                 word = word.escape_debug()
             ),
-            Fault::Other => write!(f, "the words are no command line"),
+        }
+    }
+}
+
+/// What the next word of the command is to be.
+#[derive(Clone, Copy)]
+enum Due {
+    /// One that names a command.
+    Command,
+    /// The number of a demonstration.
+    Number,
+    /// The word for a live demonstration, or none.
+    Live,
+    /// None.
+    Nothing,
+}
+
+impl Due {
+    /// What is due behind the word.
+    fn behind(self, word: &str) -> Result<Due, Fault<'_>> {
+        match self {
+            Due::Command if word == DEMO => Ok(Due::Number),
+            Due::Command if plain_command(word).is_some() => Ok(Due::Nothing),
+            Due::Command => Err(Fault::UnknownCommand { word }),
+            Due::Number if decimal(word).is_some() => Ok(Due::Live),
+            Due::Number => Err(Fault::NoNumber),
+            Due::Live if word == LIVE => Ok(Due::Nothing),
+            Due::Live | Due::Nothing => Err(Fault::OneTooMany { word }),
         }
     }
 }
 
 /// The words of a command line as far as they are read.
-#[derive(Clone, Copy)]
-struct Line<'w> {
+#[derive(Drop)]
+struct Line {
     /// The option whose value is due.
-    waiting: Option<&'w str>,
+    waiting: Option<Setting>,
     has_fuel: bool,
     has_patience: bool,
     /// A `--` was read.
     is_trailing: bool,
-    command: Option<&'w str>,
-    number: Option<&'w str>,
-    is_live: bool,
+    due: Due,
 }
 
-impl<'w> Line<'w> {
+impl Line {
     /// One more word.
-    fn read(&mut self, word: &'w str) -> Result<(), Fault<'w>> {
-        if let Some(option) = self.waiting {
-            self.waiting = None;
-            return value_of(option, word);
+    fn read<'w>(&mut self, word: &'w str) -> Result<(), Fault<'w>> {
+        if let Some(option) = self.waiting.take() {
+            return spaced(option, word);
         }
         if self.is_trailing || !word.starts_with('-') {
-            return self.positional(word);
+            self.due = self.due.behind(word)?;
+            return Ok(());
         }
         match word.strip_prefix("--") {
             Some("") => {
@@ -89,35 +116,25 @@ impl<'w> Line<'w> {
         }
     }
 
-    fn positional(&mut self, word: &'w str) -> Result<(), Fault<'w>> {
-        match (self.command, self.number) {
-            (None, _) if !is_command(word) => return Err(Fault::UnknownCommand { word }),
-            (None, _) => self.command = Some(word),
-            (Some("demo"), None) if decimal(word).is_none() => return Err(Fault::NoNumber),
-            (Some("demo"), None) => self.number = Some(word),
-            (Some("demo"), Some(_)) if word == "live" && !self.is_live => self.is_live = true,
-            _ => return Err(Fault::OneTooMany { word }),
-        }
-        Ok(())
-    }
-
     /// The option of a word, of which `text` stands behind `--`.
-    fn option(&mut self, word: &'w str, text: &'w str) -> Result<(), Fault<'w>> {
-        let (option, value) = match text.split_once('=') {
-            Some((option, value)) => (option, Some(value)),
+    fn option<'w>(&mut self, word: &'w str, text: &'w str) -> Result<(), Fault<'w>> {
+        let (name, value) = match text.split_once('=') {
+            Some((name, value)) => (name, Some(value)),
             None => (text, None),
         };
+        let Some(option) = Setting::named(name) else {
+            return Err(Fault::UnknownOption { word });
+        };
         let stands = match option {
-            "fuel" => &mut self.has_fuel,
-            "patience" => &mut self.has_patience,
-            _ => return Err(Fault::UnknownOption { word }),
+            Setting::Fuel => &mut self.has_fuel,
+            Setting::Patience => &mut self.has_patience,
         };
         if *stands {
             return Err(Fault::Twice { option });
         }
         *stands = true;
         match value {
-            Some(value) => value_of(option, value),
+            Some(value) => in_range(option, value),
             None => {
                 self.waiting = Some(option);
                 Ok(())
@@ -125,60 +142,44 @@ impl<'w> Line<'w> {
         }
     }
 
-    /// What is wrong where no word is.
-    fn end(&self) -> Fault<'w> {
-        match (self.waiting, self.command, self.number) {
-            (Some(option), _, _) => Fault::NoValue { option },
-            (None, None, _) => Fault::NoCommand,
-            (None, Some("demo"), None) => Fault::NoNumber,
-            _ => Fault::Other,
+    /// What is wrong where no word is left.
+    fn end(&self) -> Option<Fault<'static>> {
+        match (self.waiting, self.due) {
+            (Some(option), _) => Some(Fault::NoValue { option }),
+            (None, Due::Command) => Some(Fault::NoCommand),
+            (None, Due::Number) => Some(Fault::NoNumber),
+            (None, Due::Live | Due::Nothing) => None,
         }
     }
 }
 
-fn is_command(word: &str) -> bool {
-    matches!(
-        word,
-        "check"
-            | "follow"
-            | "sim"
-            | "run"
-            | "bundle"
-            | "infer"
-            | "replay"
-            | "show"
-            | "upgrade"
-            | "demo"
-    )
+/// The value of an option as a word of its own: what looks like an option is none.
+fn spaced(option: Setting, word: &str) -> Result<(), Fault<'_>> {
+    if word.starts_with("--") {
+        return Err(Fault::NoValue { option });
+    }
+    in_range(option, word)
 }
 
-fn value_of<'w>(option: &'w str, value: &str) -> Result<(), Fault<'w>> {
-    let limit = if option == "fuel" {
-        FUEL_LIMIT
-    } else {
-        PATIENCE_LIMIT
-    };
-    match decimal(value) {
-        Some(number) if number >= 1 && number <= u64::from(limit) => Ok(()),
-        _ if value.starts_with("--") => Err(Fault::NoValue { option }),
-        _ => Err(Fault::OutOfRange { option, limit }),
+fn in_range(option: Setting, value: &str) -> Result<(), Fault<'_>> {
+    match value_of(option, value) {
+        Some(_) => Ok(()),
+        None => Err(Fault::OutOfRange { option }),
     }
 }
 
-/// What is wrong with words that are no line of the grammar: the first thing, from the left.
-pub fn what_is_wrong<'w>(words: &[&'w str]) -> Fault<'w> {
+/// What is wrong with words that are no line of the grammar: the first thing, from the left. Nothing is wrong with a line.
+pub fn what_is_wrong<'w>(words: &[&'w str]) -> Option<Fault<'w>> {
     let mut line = Line {
         waiting: None,
         has_fuel: false,
         has_patience: false,
         is_trailing: false,
-        command: None,
-        number: None,
-        is_live: false,
+        due: Due::Command,
     };
     for word in words {
         if let Err(fault) = line.read(word) {
-            return fault;
+            return Some(fault);
         }
     }
     line.end()

@@ -28,6 +28,7 @@ fn run(fuel: Option<u32>, patience: Option<u32>) -> Settings {
 fn all_read(rt: &impl Abort, alloc: Global, lines: &[(&[&str], Settings)]) {
     for (words, settings) in lines {
         assert_eq!(rt; read_words(alloc, words), Ok(*settings));
+        assert_eq!(rt; what_is_wrong(words), None);
     }
 }
 
@@ -35,7 +36,7 @@ fn all_read(rt: &impl Abort, alloc: Global, lines: &[(&[&str], Settings)]) {
 fn all_refused(rt: &impl Abort, alloc: Global, faulty: &[(&[&str], Fault<'_>)]) {
     for (words, fault) in faulty {
         assert_eq!(rt; read_words(alloc, words), Err(Refusal::Usage));
-        assert_eq!(rt; what_is_wrong(words), *fault);
+        assert_eq!(rt; what_is_wrong(words), Some(*fault));
     }
 }
 
@@ -91,7 +92,7 @@ fn lines_are_read(rt: HostRuntime) {
 
 #[test]
 fn other_words_are_refused(rt: HostRuntime) {
-    let faulty: [(&[&str], Fault<'_>); 46] = [
+    let faulty: [(&[&str], Fault<'_>); 47] = [
         (&[], Fault::NoCommand),
         (&["--"], Fault::NoCommand),
         (&["nothing"], Fault::UnknownCommand { word: "nothing" }),
@@ -127,98 +128,114 @@ fn other_words_are_refused(rt: HostRuntime) {
         ),
         (&["--", "run", "--"], Fault::OneTooMany { word: "--" }),
         (&["--", "--", "run"], Fault::UnknownCommand { word: "--" }),
-        (&["run", "--fuel"], Fault::NoValue { option: "fuel" }),
-        (&["--fuel", "--", "run"], Fault::NoValue { option: "fuel" }),
+        (
+            &["run", "--fuel"],
+            Fault::NoValue {
+                option: Setting::Fuel,
+            },
+        ),
+        (
+            &["--fuel", "--", "run"],
+            Fault::NoValue {
+                option: Setting::Fuel,
+            },
+        ),
         (
             &["--fuel", "--patience", "1", "run"],
-            Fault::NoValue { option: "fuel" },
+            Fault::NoValue {
+                option: Setting::Fuel,
+            },
         ),
         (
             &["--fuel", "5", "--fuel", "5", "run"],
-            Fault::Twice { option: "fuel" },
+            Fault::Twice {
+                option: Setting::Fuel,
+            },
         ),
         (
             &["--patience=5", "run", "--patience", "5"],
-            Fault::Twice { option: "patience" },
+            Fault::Twice {
+                option: Setting::Patience,
+            },
         ),
         (
             &["--fuel", "0", "run"],
             Fault::OutOfRange {
-                option: "fuel",
-                limit: 1_000_000,
+                option: Setting::Fuel,
             },
         ),
         (
             &["--fuel", "1000001", "run"],
             Fault::OutOfRange {
-                option: "fuel",
-                limit: 1_000_000,
+                option: Setting::Fuel,
             },
         ),
         (
             &["--patience=10000001", "run"],
             Fault::OutOfRange {
-                option: "patience",
-                limit: 10_000_000,
+                option: Setting::Patience,
             },
         ),
         (
             &["--fuel=18446744073709551617", "run"],
             Fault::OutOfRange {
-                option: "fuel",
-                limit: 1_000_000,
+                option: Setting::Fuel,
             },
         ),
         (
             &["--fuel=+5", "run"],
             Fault::OutOfRange {
-                option: "fuel",
-                limit: 1_000_000,
+                option: Setting::Fuel,
             },
         ),
         (
             &["--fuel", "-5", "run"],
             Fault::OutOfRange {
-                option: "fuel",
-                limit: 1_000_000,
+                option: Setting::Fuel,
             },
         ),
         (
             &["--fuel=", "run"],
             Fault::OutOfRange {
-                option: "fuel",
-                limit: 1_000_000,
+                option: Setting::Fuel,
             },
         ),
         (
             &["--fuel", "", "run"],
             Fault::OutOfRange {
-                option: "fuel",
-                limit: 1_000_000,
+                option: Setting::Fuel,
             },
         ),
         (
             &["--fuel", "-", "run"],
             Fault::OutOfRange {
-                option: "fuel",
-                limit: 1_000_000,
+                option: Setting::Fuel,
             },
         ),
         (
             &["--fuel=5=6", "run"],
             Fault::OutOfRange {
-                option: "fuel",
-                limit: 1_000_000,
+                option: Setting::Fuel,
             },
         ),
         (
             &["--fuel=-5", "run"],
             Fault::OutOfRange {
-                option: "fuel",
-                limit: 1_000_000,
+                option: Setting::Fuel,
             },
         ),
-        (&["--fuel=--", "run"], Fault::NoValue { option: "fuel" }),
+        (
+            &["--fuel=--", "run"],
+            Fault::OutOfRange {
+                option: Setting::Fuel,
+            },
+        ),
+        (
+            &["--patience=--fuel", "run"],
+            Fault::OutOfRange {
+                option: Setting::Patience,
+            },
+        ),
         (&["demo"], Fault::NoNumber),
         (&["demo", "live"], Fault::NoNumber),
         (&["demo", "+1"], Fault::NoNumber),
@@ -245,12 +262,21 @@ fn faults_are_told(rt: HostRuntime) -> Result<(), Fail> {
             "`a\\nb` is no command",
         ),
         (Fault::UnknownOption { word: "-x" }, "`-x` is no option"),
-        (Fault::NoValue { option: "fuel" }, "`--fuel` has no value"),
-        (Fault::Twice { option: "fuel" }, "`--fuel` stands twice"),
+        (
+            Fault::NoValue {
+                option: Setting::Fuel,
+            },
+            "`--fuel` has no value",
+        ),
+        (
+            Fault::Twice {
+                option: Setting::Fuel,
+            },
+            "`--fuel` stands twice",
+        ),
         (
             Fault::OutOfRange {
-                option: "fuel",
-                limit: 1_000_000,
+                option: Setting::Fuel,
             },
             "`--fuel` takes a number from 1 to 1000000",
         ),
@@ -262,7 +288,12 @@ fn faults_are_told(rt: HostRuntime) -> Result<(), Fail> {
             Fault::OneTooMany { word: "live" },
             "the command takes no word `live`",
         ),
-        (Fault::Other, "the words are no command line"),
+        (
+            Fault::OutOfRange {
+                option: Setting::Patience,
+            },
+            "`--patience` takes a number from 1 to 10000000",
+        ),
     ];
     for (fault, text) in &told {
         assert_eq!(rt; format!(in rt.alloc(); "{fault}")?.as_str(), *text);

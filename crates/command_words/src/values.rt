@@ -1,11 +1,15 @@
 //! What the words mean that were given to an option, or as positionals.
-ghost use Rattle.std.specs.Prelude.{◌≡◌, ◌<◌, ◌^◌, ℕ, MatchOption, map, option_map};
+ghost use Rattle.std.specs.Prelude.{◌≡◌, ◌<◌, ◌^◌, ◌∷◌, ℕ, Some, [], MatchOption, map, option_map};
 ghost use Rattle.command_words.specs.Reading.{IsDemo, IsReading, listed};
-ghost use Rattle.command_words.specs.Words.{Answers, IsDecimal, Names, Sets};
+ghost use Rattle.command_words.specs.Words.{Answers, IsDecimal, Names, Sets, form};
 
+use crate::options::Setting;
 use crate::settings::{Command, Refusal, Settings};
-use interleavings::PATIENCE_LIMIT;
-use stride_isa::limits::FUEL_LIMIT;
+
+/// The word that names a demonstration.
+pub(crate) const DEMO: &str = "demo";
+/// The word behind its number where threads run.
+pub(crate) const LIVE: &str = "live";
 
 /// The value of a decimal, or `None` where the word is no decimal of a `u64`.
 pub(crate) fn decimal(word: &str) -> Option<u64>
@@ -19,16 +23,28 @@ pub(crate) fn decimal(word: &str) -> Option<u64>
     word.parse().ok()
 }
 
+/// The value of an option, or `None` where the word is no decimal from 1 to its limit.
+pub(crate) fn value_of(option: Setting, word: &str) -> Option<u32>
+    ensures { MatchOption result
+        ((n : ℕ) → Sets (form option).limit (word.now ∷ []) (Some n) → ⊥)
+        (λ n. Sets (form option).limit (word.now ∷ []) (Some n)) }
+{
+    match decimal(word) {
+        Some(number) if number >= 1 && number <= u64::from(option.limit()) => Some(number as u32),
+        _ => None,
+    }
+}
+
 /// What the value of an option sets.
-fn setting(value: Option<&str>, limit: u32) -> Result<Option<u32>, Refusal>
-    ensures { Answers (Sets limit (listed (option_map (λ word. word.now) value.entry))) result }
+fn setting(option: Setting, value: Option<&str>) -> Result<Option<u32>, Refusal>
+    ensures { Answers (Sets (form option).limit (listed (option_map (λ word. word.now) value.entry))) result }
 {
     let Some(word) = value else {
         return Ok(None);
     };
-    match decimal(word) {
-        Some(number) if number >= 1 && number <= u64::from(limit) => Ok(Some(number as u32)),
-        _ => Err(Refusal::Usage),
+    match value_of(option, word) {
+        Some(number) => Ok(Some(number)),
+        None => Err(Refusal::Usage),
     }
 }
 
@@ -42,22 +58,34 @@ fn demo(number: &str, live: bool) -> Result<Command, Refusal>
     }
 }
 
+/// The command that a word names alone.
+pub(crate) fn plain_command(word: &str) -> Option<Command>
+    ensures { MatchOption result
+        ((command : Command) → Names command (word.now ∷ []) → ⊥)
+        (λ command. Names command (word.now ∷ [])) }
+{
+    match word {
+        "check" => Some(Command::Check),
+        "follow" => Some(Command::Follow),
+        "sim" => Some(Command::Sim),
+        "run" => Some(Command::Run),
+        "bundle" => Some(Command::Bundle),
+        "infer" => Some(Command::Infer),
+        "replay" => Some(Command::Replay),
+        "show" => Some(Command::Show),
+        "upgrade" => Some(Command::Upgrade),
+        _ => None,
+    }
+}
+
 /// The command that the positionals name.
 fn command_of(positionals: &[&str]) -> Result<Command, Refusal>
     ensures { Answers (λ command. Names command (map (λ word. word.now) positionals.now)) result }
 {
     match positionals {
-        ["check"] => Ok(Command::Check),
-        ["follow"] => Ok(Command::Follow),
-        ["sim"] => Ok(Command::Sim),
-        ["run"] => Ok(Command::Run),
-        ["bundle"] => Ok(Command::Bundle),
-        ["infer"] => Ok(Command::Infer),
-        ["replay"] => Ok(Command::Replay),
-        ["show"] => Ok(Command::Show),
-        ["upgrade"] => Ok(Command::Upgrade),
-        ["demo", number] => demo(number, false),
-        ["demo", number, "live"] => demo(number, true),
+        [word] => plain_command(word).ok_or(Refusal::Usage),
+        [DEMO, number] => demo(number, false),
+        [DEMO, number, LIVE] => demo(number, true),
         _ => Err(Refusal::Usage),
     }
 }
@@ -72,7 +100,7 @@ pub(crate) fn settings_of(
 {
     Ok(Settings {
         command: command_of(positionals)?,
-        fuel: setting(fuel, FUEL_LIMIT)?,
-        patience: setting(patience, PATIENCE_LIMIT)?,
+        fuel: setting(Setting::Fuel, fuel)?,
+        patience: setting(Setting::Patience, patience)?,
     })
 }

@@ -56,16 +56,15 @@ fn run<L: Ledger, R: Threads + Wait + Sync + Input + Print>(
 
 /// One line on standard error, where the command is not done: for words that are refused it tells what is wrong with them.
 fn tell<R: Eprint>(rt: &R, status: &Status, words: &[&str]) {
-    match status {
-        Status::Done => {}
-        Status::Usage => {
-            let fault = what_is_wrong(words);
-            let _ = eprintln!(rt; "stride: {fault}; {status}");
-        }
-        _ => {
-            let _ = eprintln!(rt; "stride: {status}");
-        }
-    }
+    let fault = match status {
+        Status::Done => return,
+        Status::Usage => what_is_wrong(words),
+        _ => None,
+    };
+    let _ = match fault {
+        Some(fault) => eprintln!(rt; "stride: {fault}; {status}"),
+        None => eprintln!(rt; "stride: {status}"),
+    };
 }
 
 fn status_of<R: Threads + Wait + Sync + Input + Print + Eprint>(

@@ -18,7 +18,8 @@ use Rattle.event_order.specs.Cycles.{IsCycle, IsTheCycle}
 use Rattle.event_order.specs.DirectOrder.{LinkRows}
 use Rattle.event_order.specs.Laws.{ExtensionsAreRuns, LeastOrCycle, traces_of}
 use Rattle.event_order.specs.Least.{IsLeast}
-use Rattle.command_words.specs.Words.{Word}
+use Rattle.command_words.specs.Laws.{LineOrNone}
+use Rattle.command_words.specs.Words.{HasLine, IsNoLine, Word}
 use Rattle.log_format.specs.Bundles.{Bundled}
 use Rattle.log_format.specs.Laws.{FuelIsInRange}
 use Rattle.log_format.specs.Reading.{reading, Refusal as FormatRefusal}
@@ -30,7 +31,7 @@ use Rattle.stride_cli.specs.Inferring.{Circular, Diverging, Inference, Inferred,
 use Rattle.stride_cli.specs.Laws.{AnAnswer}
 use Rattle.stride_cli.specs.Reports.{infer_report, replay_report}
 use Rattle.stride_cli.specs.Settings.{Limits, limits_of}
-use Rattle.stride_cli.specs.Words.{given, reads, HasLine, IsNoLine, offline_named}
+use Rattle.stride_cli.specs.Words.{given, reads, offline_named}
 use Rattle.stride_cli.proofs.LeastRuns.{least_runs}
 use Rattle.stride_cli.proofs.Readings.{in_range}
 use Rattle.demo.specs.Laws.{DemoOrdersNameThreads, DemoProgramsAreValid}
@@ -41,8 +42,9 @@ text_answer : HasVerdict → (text : List ℕ) (s : Result Listing LineFault) (a
 text_answer each text (Err fault) accepted = (refused_text fault, refl)
 text_answer each text (Ok p) accepted = let judgement = each p in (judged text judgement.0 (accepted p), (judgement.0, (judgement.1, refl)))
 
--- what the laws say of verdicts, of bundles, of linking, of the direct order and of recordings
+-- what the laws say of words, of verdicts, of bundles, of linking, of the direct order and of recordings
 pub record Laws : Type 0 where
+  pub line : LineOrNone
   pub verdict : HasVerdict
   pub links : LinksOrRefusal
   pub order : LeastOrCycle
@@ -140,4 +142,4 @@ by_words there words bytes (inl line) =
 by_words there words bytes (inr none) = (refused Usage, inr (none, refl))
 
 pub an_answer : Laws → AnAnswer
-an_answer there = λ words bytes read. by_words there words bytes read
+an_answer there = λ words bytes. by_words there words bytes (there.line words)

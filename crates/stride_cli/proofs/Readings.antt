@@ -1,14 +1,14 @@
 -- What the words of a line set, and what is answered to them.
 use Rattle.std.proofs.Common.{◌≡◌, ◌↔◌, ◌≤◌, inl, inr, ℕ, List, [], ◌∷◌, Option, Some, None, IfSome, refl, subst, arith, unwrap_or}
 use Rattle.command_words.specs.Laws.{OneReading}
-use Rattle.command_words.specs.Words.{IsLine, Sets, Word, fuel, patience, form, given}
+use Rattle.command_words.specs.Words.{IsLine, IsNoLine, OfLine, Sets, Word, form, given}
+use Rattle.command_words.specs.declared.options.Setting.TheVariants.{Fuel, Patience}
 use Rattle.command_words.specs.declared.settings.Settings.{Settings}
 use Rattle.stride_cli.specs.declared.status.Status.{Status}
 use Rattle.stride_cli.specs.declared.status.Status.TheVariants.{Done, Usage, ReadFault, TooLong, Program, Bundle, Diverges, NoLinkage, NotEnabled, WriteFault, NoMemory}
 use Rattle.stride_cli.specs.Answers.{Answer, AnswersWords, refused}
 use Rattle.stride_cli.specs.Settings.{AreInRange, limits_of}
 use Rattle.stride_cli.specs.Telling.{OnMemory}
-use Rattle.stride_cli.specs.Words.{IsNoLine, OfLine}
 
 within : (limit other : ℕ) (words : List Word) (kept : Option ℕ) → 1 ≤ other → other ≤ limit → Sets limit words kept → (1 ≤ unwrap_or kept other) × (unwrap_or kept other ≤ limit)
 within limit other words None some most is = (some, most)
@@ -19,8 +19,8 @@ within limit other (word ∷ next ∷ words) (Some n) some most is = absurd is
 -- what a line sets is in range
 pub in_range : (words : List Word) (settings : Settings) → IsLine words settings → AreInRange (limits_of settings)
 in_range words settings line =
-    let of_fuel = within (form fuel).limit 100000 (given fuel line.items) settings.fuel (omega arith) (omega arith) (line.options fuel) in
-    let of_patience = within (form patience).limit 100000 (given patience line.items) settings.patience (omega arith) (omega arith) (line.options patience) in
+    let of_fuel = within (form Fuel).limit 100000 (given Fuel line.items) settings.fuel (omega arith) (omega arith) (line.options Fuel) in
+    let of_patience = within (form Patience).limit 100000 (given Patience line.items) settings.patience (omega arith) (omega arith) (line.options Patience) in
     record { some_fuel = of_fuel.0; fuel = of_fuel.1; some_patience = of_patience.0; patience = of_patience.1 }
 
 -- what holds of one reading of the words holds of each

@@ -19,7 +19,7 @@ use Rattle.assembler.specs.CodeLines.{code_line}
 use Rattle.assembler.specs.Orders.{order_spelled}
 use Rattle.assembler.specs.Programs.{LineFault, spelled}
 use Rattle.assembler.specs.Splits.{split}
-use Rattle.command_words.specs.Words.{IsLine, Word}
+use Rattle.command_words.specs.Words.{IsLine, IsNoLine, Word}
 use Rattle.command_words.specs.declared.settings.Settings.{Settings}
 use Rattle.linkage.specs.declared.link_error.LinkError.{LinkError}
 use Rattle.linkage.specs.declared.link_error.LinkError.TheVariants as links
@@ -34,7 +34,7 @@ use Rattle.stride_cli.specs.declared.status.ProgramFault.TheVariants.{Text, Code
 use Rattle.stride_cli.specs.Inferring.{Inference, Unlinked, Circular, Diverging, Ordered, Inferred, IsInferred}
 use Rattle.stride_cli.specs.Reports.{follow_report, infer_report, replay_report, show_report, sim_report, summary_report}
 use Rattle.stride_cli.specs.Settings.{demo_limits, Limits, limits_of}
-use Rattle.stride_cli.specs.Words.{given, reads, IsNoLine, offline_named}
+use Rattle.stride_cli.specs.Words.{given, reads, offline_named}
 
 -- how a command ends, and what it puts
 pub record Answer : Type 0 where

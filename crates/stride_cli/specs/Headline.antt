@@ -6,7 +6,7 @@ use Rattle.stride_isa.specs.Listing.{Listing}
 use Rattle.stride_isa.specs.Validity.{IsValid}
 use Rattle.sc_machine.specs.Machine.{Machine}
 use Rattle.interleavings.specs.Recording.{IsRecording, Recording}
-use Rattle.command_words.specs.Words.{Word}
+use Rattle.command_words.specs.Words.{OfLine, Word}
 use Rattle.command_words.specs.declared.settings.Command.TheVariants.{Demo, Run}
 use Rattle.command_words.specs.declared.settings.Settings.{Settings}
 use Rattle.demo.specs.Demo.{demo_program}
@@ -19,7 +19,6 @@ use Rattle.stride_cli.specs.declared.words.Live.TheVariants as lives
 use Rattle.stride_cli.specs.Answers.{setting_of}
 use Rattle.stride_cli.specs.Reports.{replay_report, summary_report}
 use Rattle.stride_cli.specs.Settings.{Limits, demo_limits, limits_of}
-use Rattle.stride_cli.specs.Words.{OfLine}
 
 -- how many looks at events and at their links are enough to find the schedule of so many events
 abbrev pub look_limit : ℕ → ℕ

@@ -1,11 +1,11 @@
 -- What holds of the answers to words and bytes.
-use Rattle.std.specs.Prelude.{◌≡◌, ◌⊎◌, ℕ, List, Ok, None, length}
+use Rattle.std.specs.Prelude.{◌≡◌, ℕ, List, Ok, None, length}
 use Rattle.stride_isa.specs.Listing.{Listing}
 use Rattle.stride_isa.specs.Validity.{IsValid}
 use Rattle.interleavings.specs.Driving.{driven, stranger, whole_run}
 use Rattle.interleavings.specs.Following.{Followed, follow_all}
 use Rattle.interleavings.specs.Recording.{IsFollowed}
-use Rattle.command_words.specs.Words.{Word}
+use Rattle.command_words.specs.Words.{OfLine, Word}
 use Rattle.command_words.specs.declared.settings.Command.TheVariants.{Replay, Sim}
 use Rattle.log_format.specs.Bundles.{Bundled}
 use Rattle.log_format.specs.Reading.{reading}
@@ -15,11 +15,10 @@ use Rattle.event_order.specs.Laws.{RunsAsFollowed}
 use Rattle.stride_cli.specs.Answers.{Answer, IsAnswer, done, order_of, program_part, setting_of}
 use Rattle.stride_cli.specs.Reports.{replay_report, sim_report}
 use Rattle.stride_cli.specs.Settings.{Limits, limits_of}
-use Rattle.stride_cli.specs.Words.{HasLine, IsNoLine, OfLine}
 
--- words that are a line of the grammar, or none, and bytes have an answer
+-- words and bytes have an answer
 abbrev pub AnAnswer : Type 0
-AnAnswer = (words : List Word) (bytes : List ℕ) → HasLine words ⊎ IsNoLine words → (answer : Answer) × IsAnswer words bytes answer
+AnAnswer = (words : List Word) (bytes : List ℕ) → (answer : Answer) × IsAnswer words bytes answer
 
 -- words and bytes have one answer at most
 abbrev pub OneAnswer : Type 0

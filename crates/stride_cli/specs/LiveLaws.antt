@@ -5,7 +5,7 @@ use Rattle.stride_isa.specs.Validity.{IsValid}
 use Rattle.sc_machine.specs.Machine.{Machine}
 use Rattle.interleavings.specs.Recording.{IsRecording, Recording}
 use Rattle.assembler.specs.Programs.{spelled}
-use Rattle.command_words.specs.Words.{Word}
+use Rattle.command_words.specs.Words.{OfLine, Word}
 use Rattle.command_words.specs.declared.settings.Command.TheVariants.{Bundle, Infer, Replay}
 use Rattle.log_format.specs.Reading.{reading}
 use Rattle.history_laws.specs.RecordedRuns.{IsReplayOf, IsScheduleOf}
@@ -14,7 +14,6 @@ use Rattle.stride_cli.specs.Answers.{Answer, IsAnswer, done, setting_of}
 use Rattle.stride_cli.specs.LiveAnswers.{IsStrideAnswer, bundle_of}
 use Rattle.stride_cli.specs.Reports.{replay_report}
 use Rattle.stride_cli.specs.Settings.{Limits, limits_of}
-use Rattle.stride_cli.specs.Words.{OfLine}
 
 -- the answer is the report of the replay of this recording: of the schedule that is inferred from its logs, and of the run by this
 -- schedule, in which each thread makes exactly its recorded events, and its lines of the transcript are its recorded output

@@ -1,9 +1,7 @@
 -- What the words of the command line name.
 use Rattle.std.specs.Prelude.{ℕ, Bool, true, false, List, [], Option, Some, None}
-use Rattle.command_words.specs.Words.{IsLine, Word}
 use Rattle.command_words.specs.declared.settings.Command.{Command as Named}
 use Rattle.command_words.specs.declared.settings.Command.TheVariants as named
-use Rattle.command_words.specs.declared.settings.Settings.{Settings}
 use Rattle.stride_cli.specs.declared.words.Command.{Command}
 use Rattle.stride_cli.specs.declared.words.Command.TheVariants as commands
 use Rattle.stride_cli.specs.declared.words.Live.{Live}
@@ -64,15 +62,3 @@ named_reads None None = true
 abbrev pub given : Bool → List ℕ → List ℕ
 given true bytes = bytes
 given false bytes = []
-
--- the words are a line of the grammar, with some settings
-abbrev pub HasLine : List Word → Type 0
-HasLine words = (settings : Settings) × IsLine words settings
-
--- a fact about the settings of the words, where these are a line of the grammar
-abbrev pub OfLine : List Word → (Settings → Type 0) → Type 0
-OfLine words Holds = (settings : Settings) → IsLine words settings → Holds settings
-
--- the words are no line of the grammar
-abbrev pub IsNoLine : List Word → Type 0
-IsNoLine words = OfLine words (λ _. ⊥)

@@ -2,10 +2,11 @@
 ghost use Rattle.stride_cli.specs.Laws.{AnAnswer, OneAnswer, ReplaysAreRuns, SimulationsAreRuns};
 ghost use Rattle.stride_cli.specs.LiveLaws.{BundlesAreReplayed};
 
-/// Words that are a line of the grammar, or none, and the bytes of an input have an answer.
+/// Words and the bytes of an input have an answer.
 pub fn an_answer()
     ensures { AnAnswer }
 {
+    command_words::line_or_none();
     stride_isa::some_verdict();
     demo::demo_programs_are_valid();
     demo::demo_orders_name_threads();

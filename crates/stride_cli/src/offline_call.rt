@@ -2,12 +2,13 @@
 ghost use Rattle.std.specs.Prelude.{◌≡◌, ◌+◌, ◌≤◌, ◌↔◌, [], None, Some, IfSome, map, length};
 ghost use Rattle.std.specs.Bool.{MatchBool};
 ghost use Rattle.stride_base.specs.Devices.{Rose};
+ghost use Rattle.command_words.specs.Words.{IsNoLine, OfLine};
 ghost use Rattle.stride_cli.specs.Answers.{AnswersBy, AnswersSettings};
 ghost use Rattle.stride_cli.specs.LimitsSeen.{limits_seen};
 ghost use Rattle.stride_cli.specs.Looks.{BeforeLinking, OnUnlinking, greatest_looks, most_looks};
 ghost use Rattle.stride_cli.specs.Settings.{AreInRange, limits_of};
 ghost use Rattle.stride_cli.specs.Telling.{OnDone, OnLogless, OnMemory, OnOrderless, OnReadFault, OnRefusal, OnWriteFault, RefusesNoLogs, RefusesNoMember, Tells, TellsBy};
-ghost use Rattle.stride_cli.specs.Words.{IsNoLine, OfLine, named_reads, offline_named, reads};
+ghost use Rattle.stride_cli.specs.Words.{named_reads, offline_named, reads};
 
 use crate::commands::report_of;
 use crate::input::{read_bytes, unread};

@@ -2,6 +2,7 @@
 ghost use Rattle.std.specs.Prelude.{◌≡◌, ◌+◌, ◌≤◌, ◌↔◌, [], None, Ok, Some, IfSome, map, length};
 ghost use Rattle.std.specs.Bool.{MatchBool};
 ghost use Rattle.stride_base.specs.Devices.{Rose};
+ghost use Rattle.command_words.specs.Words.{IsNoLine, OfLine};
 ghost use Rattle.stride_cli.specs.Headline.{DemoHeadline, Headline, IsDemoKeptBy, IsKeptBy, IsLiveKept, World};
 ghost use Rattle.stride_cli.specs.LimitsSeen.{limits_seen};
 ghost use Rattle.stride_cli.specs.LiveAnswers.{AnswersLiveBytes, AnswersLiveSettings, IsStrideAnswer};
@@ -9,7 +10,7 @@ ghost use Rattle.stride_cli.specs.LiveLooks.{LiveLooks, NamedLooks, OnUncounted}
 ghost use Rattle.stride_cli.specs.Looks.{BeforeLinking, greatest_looks};
 ghost use Rattle.stride_cli.specs.Settings.{AreInRange, limits_of};
 ghost use Rattle.stride_cli.specs.Telling.{OnDone, OnLogless, OnMemory, OnOrderless, OnReadFault, OnRefusal, OnWriteFault, RefusesNoLogs, RefusesNoMember, TellsBy};
-ghost use Rattle.stride_cli.specs.Words.{IsNoLine, OfLine, live_named, live_reads, named_reads, offline_named};
+ghost use Rattle.stride_cli.specs.Words.{live_named, live_reads, named_reads, offline_named};
 
 use crate::commands::live_report_of;
 use crate::input::{read_bytes, unread};

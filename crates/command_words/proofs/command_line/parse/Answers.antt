@@ -4,8 +4,7 @@ use Rattle.clap.specs.Faults.{fault_of, is_simple_and_free}
 use Rattle.clap.specs.Kinds.{FailsBy}
 use Rattle.clap.specs.Simple.{App, Shape, app_of, app_of_fields, is_simple, matches_of, new_app, on_top, with_rule}
 use Rattle.clap.specs.Walk.{rule_of}
-use Rattle.command_words.specs.App.{line_app, option_rule, plain_app, positional_rule}
-use Rattle.command_words.specs.Words.{fuel, patience}
+use Rattle.command_words.specs.App.{line_app, plain_app, positional_rule}
 use Rattle.command_words.proofs.command_line.parse.Goals as goal
 
 abbrev unnamed : App → App
@@ -20,18 +19,16 @@ unversioned = on_top (λ (shape : Shape). record shape { disable_version_flag = 
 pub returns : goal.returns
 returns c =
     let words = map (λ word. word.now) c.args.words.now in
-    let fuel_is : rule_of c.action-fuel.result ≡ option_rule fuel = search rules in
-    let patience_is : rule_of c.action-patience.result ≡ option_rule patience = search rules in
     let command_is : rule_of c.action-command.result ≡ positional_rule = search rules in
     let unnamed_is : app_of c.no_binary_name.result ≡ unnamed (new_app (codes "stride"))
-    = ap app_of_fields c.no_binary_name.ensures ∙ ap unnamed c.new-4.ensures.app in
+    = ap app_of_fields c.no_binary_name.ensures ∙ ap unnamed c.new-2.ensures.app in
     let unhelped_is : app_of c.disable_help_flag.result ≡ unhelped (unnamed (new_app (codes "stride")))
     = ap app_of_fields c.disable_help_flag.ensures ∙ ap unhelped unnamed_is in
     let plain_is : app_of c.disable_version_flag.result ≡ plain_app
     = ap app_of_fields c.disable_version_flag.ensures ∙ ap unversioned unhelped_is in
     let app_is : app_of c.in_ok-arg-3.field-0 ≡ line_app
-    = c.in_ok-arg-3.ensures.shape (search rules) ∙ ap₂ with_rule (c.in_ok-arg-2.ensures.shape (search rules)
-    ∙ ap₂ with_rule (c.in_ok-arg.ensures.shape (search rules) ∙ ap₂ with_rule plain_is fuel_is) patience_is) command_is in
+    = c.in_ok-arg-3.ensures.shape (search rules) ∙ ap₂ with_rule (c.in_ok-arg-2.ensures.shape c.option_of-2.ensures.global
+    ∙ ap₂ with_rule (c.in_ok-arg.ensures.shape c.option_of.ensures.global ∙ ap₂ with_rule plain_is c.option_of.ensures.rule) c.option_of-2.ensures.rule) command_is in
     let parse = c.try_get_matches_from in
     record {
       matches = IfOk-weaker parse.result _ _ (λ m h. (h (ap is_simple app_is)).0 ∙ ap (λ app. matches_of app words) app_is) parse.ensures.matches;

@@ -5,6 +5,7 @@ pub returns : goal.returns
 returns c =
     an_answer_by
     (record {
+      line = c.line_or_none.ensures;
       verdict = c.some_verdict.ensures;
       links = c.links_or_refusal.ensures;
       order = c.least_or_cycle.ensures;

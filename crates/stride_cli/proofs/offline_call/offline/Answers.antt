@@ -1,10 +1,11 @@
 use Rattle.std.specs.Bool.{MatchBool}
 use Rattle.std.proofs.Common.{[], ◌≡◌, ◌≤◌, ◌+◌, IfSome, None}
+use Rattle.command_words.specs.Words.{IsNoLine}
 use Rattle.stride_cli.specs.Answers.{AnswersSettings}
 use Rattle.stride_cli.specs.Looks.{OnUnlinking, most_looks}
 use Rattle.stride_cli.specs.Settings.{limits_of}
 use Rattle.stride_cli.specs.Telling.{OnDone, OnLogless, OnOrderless, RefusesNoLogs, RefusesNoMember}
-use Rattle.stride_cli.specs.Words.{IsNoLine, named_reads, offline_named}
+use Rattle.stride_cli.specs.Words.{named_reads, offline_named}
 use Rattle.stride_cli.proofs.Readings.{in_range, no_line_answer, no_line_refused, of_reading, refused_line}
 use Rattle.stride_cli.proofs.offline_call.offline.Goals as goal
 

@@ -1,11 +1,12 @@
 use Rattle.std.proofs.Common.{◌≡◌, [], IfSome}
 use Rattle.std.specs.Bool.{MatchBool}
+use Rattle.command_words.specs.Words.{IsNoLine}
 use Rattle.stride_cli.specs.Headline.{IsDemoKeptBy, IsKeptBy, World}
 use Rattle.stride_cli.specs.LiveAnswers.{AnswersLiveSettings}
 use Rattle.stride_cli.specs.LiveLooks.{NamedLooks, OnUncounted}
 use Rattle.stride_cli.specs.Settings.{limits_of}
 use Rattle.stride_cli.specs.Telling.{OnDone, OnLogless, OnOrderless, RefusesNoLogs, RefusesNoMember}
-use Rattle.stride_cli.specs.Words.{IsNoLine, live_named, named_reads, offline_named}
+use Rattle.stride_cli.specs.Words.{live_named, named_reads, offline_named}
 use Rattle.stride_cli.proofs.Readings.{in_range, line_done, no_line_answer, no_line_usage, of_reading}
 use Rattle.stride_cli.proofs.stride_call.stride.Goals as goal
 
