@@ -19,9 +19,11 @@ use Rattle.stride_cli.specs.declared.words.Command.TheVariants.{Sim}
 use Rattle.stride_cli.specs.Again.{IsRunAgain}
 use Rattle.stride_cli.specs.Answers.{Answer, AnswersInput, AnswersOrder, AnswersProgram, AnswersRecorded, AnswersSimulated, done, order_of, program_part, refused, refused_text, setting_of}
 use Rattle.stride_cli.specs.Gives.{Refuses}
+use Rattle.stride_cli.specs.Headline.{look_limit}
 use Rattle.stride_cli.specs.Inferring.{Inferred, IsInferredBy, IsInferredOf, Ordered}
 use Rattle.stride_cli.specs.Inputs.{Accepts, IsInput}
-use Rattle.stride_cli.specs.Looks.{followed_looks, inferring_looks, printing_looks, simulated_looks}
+use Rattle.stride_cli.specs.Looks.{followed_looks, printing_looks, simulated_looks}
+use Rattle.linkage.specs.Sources.{event_count}
 use Rattle.event_order.specs.Laws.{ExtensionsAreWhole}
 use Rattle.stride_cli.proofs.RecordedRuns.{found_within}
 use Rattle.stride_cli.specs.Playing.{IsPlayed, TellsLogs, TellsSummary}
@@ -118,12 +120,12 @@ tells_logs p fuel logs traces inferred results report again played put =
     }
 
 -- the share of logs that were followed
-pub again_looks : (p : Listing) (fuel : ℕ) (logs : List (List LogEntry)) (traces : TraceLists) → IsRunAgain p fuel logs traces → followed_looks printing_looks p (follow_all p fuel logs) ≡ printing_looks traces
-again_looks p fuel logs traces again = ap (followed_looks printing_looks p) again.follows ∙ ap printing_looks (sym again.traces_are)
+pub again_looks : (p : Listing) (fuel : ℕ) (logs : List (List LogEntry)) (traces : TraceLists) → IsRunAgain p fuel logs traces → followed_looks printing_looks p (follow_all p fuel logs) ≡ printing_looks (event_count traces)
+again_looks p fuel logs traces again = ap (followed_looks printing_looks p) again.follows ∙ ap (λ (traces : TraceLists). printing_looks (event_count traces)) (sym again.traces_are)
 
 -- the report tells the summary of logs that were followed, linked, ordered and run
 pub tells_summary : ExtensionsAreWhole → (p : Listing) (fuel : ℕ) (logs : List (List LogEntry)) (traces : TraceLists) (inferred : Inferred) (results : Results) (report : List ℕ) (before after : ℕ) → IsRunAgain p fuel logs traces → IsPlayed p fuel traces inferred results
-    → report ≡ summary_lines (length p.threads) (length inferred.schedule) (halted_count results.ends) (unwrap_or (slice_get results.last_values 0) 0) → after ≤ before + inferring_looks traces → TellsSummary p fuel logs report before after
+    → report ≡ summary_lines (length p.threads) (length inferred.schedule) (halted_count results.ends) (unwrap_or (slice_get results.last_values 0) 0) → after ≤ before + look_limit (event_count traces) → TellsSummary p fuel logs report before after
 tells_summary whole p fuel logs traces inferred results report before after again played put looks =
     let P : TraceLists → Type 0 = λ traces. IsInferredOf traces (Ordered inferred) in
     let Q : Result (List Followed) Divergence → Type 0 = λ r. IsInferredBy p r (Ordered inferred) in

@@ -4,7 +4,8 @@ ghost use Rattle.replayer.specs.Replays.{seen};
 ghost use Rattle.log_format.specs.Reading.{reading};
 ghost use Rattle.stride_cli.specs.Answers.{AnswersBundle, AnswersRun};
 ghost use Rattle.stride_cli.specs.Gives.{GivesBy};
-ghost use Rattle.stride_cli.specs.Looks.{OnEarly, bundle_looks, greatest_looks, inferring_looks};
+ghost use Rattle.stride_cli.specs.Headline.{look_limit};
+ghost use Rattle.stride_cli.specs.Looks.{OnEarly, bundle_looks, greatest_looks};
 ghost use Rattle.stride_cli.specs.Reports.{schedule_section};
 ghost use Rattle.stride_cli.specs.Runs.{run_section};
 
@@ -47,7 +48,7 @@ pub fn replay_bundle<L: Ledger>(
     requires { length bytes.items ≤ INPUT_LIMIT }
     ensures answer { GivesBy result (AnswersBundle AnswersRun (reading bytes.items)) }
     ensures early { IfErr result (λ refusal. OnEarly refusal (steps.new ≡ steps.old)) }
-    ensures looks { steps.new ≤ steps.old + bundle_looks inferring_looks (reading bytes.items) }
+    ensures looks { steps.new ≤ steps.old + bundle_looks look_limit (reading bytes.items) }
     ensures ceiling { steps.new ≤ steps.old + greatest_looks }
 {
     let rerun = rerun_bundle(alloc, bytes)?;
