@@ -4,7 +4,7 @@ use Rattle.stride_cli.specs.declared.refusal.Refusal.{Refusal}
 use Rattle.stride_cli.specs.declared.refusal.Refusal.TheVariants as refusals
 use Rattle.stride_cli.specs.declared.status.Status.{Status}
 use Rattle.stride_cli.specs.declared.words.Command.{Command}
-use Rattle.stride_cli.specs.declared.words.Command.TheVariants.{Check, Demo, Follow, Infer, Replay, Show, Sim, Upgrade}
+use Rattle.stride_cli.specs.declared.words.Command.TheVariants.{Demo}
 use Rattle.stride_cli.specs.Answers.{Answer, AnswersDemo, AnswersInput, done}
 use Rattle.stride_cli.specs.Gives.{Refuses}
 use Rattle.stride_cli.specs.Looks.{command_looks, demo_looks}

@@ -23,3 +23,4 @@ pub mod ReplaysAreRuns
 pub mod Simulated
 pub mod Simulations
 pub mod SimulationsAreRuns
+pub mod Texts

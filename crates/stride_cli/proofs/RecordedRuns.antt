@@ -1,5 +1,5 @@
 -- What `run` reports is the replay of the recording that was made.
-use Rattle.std.proofs.Common.{◌≡◌, ◌∙◌, inl, inr, ℕ, ◌+◌, ◌≤◌, ◌++◌, List, Some, Result, Ok, Err, refl, sym, ap, subst, arith, length}
+use Rattle.std.proofs.Common.{◌≡◌, ◌∙◌, inl, inr, ℕ, ◌+◌, ◌≤◌, ◌++◌, List, Some, Result, Ok, Err, refl, sym, ap, subst, length}
 use Rattle.std.proofs.lemmas.List.{length-map}
 use Rattle.stride_isa.specs.Listing.{Listing}
 use Rattle.stride_isa.specs.Validity.{IsValid}
@@ -10,7 +10,7 @@ use Rattle.interleavings.specs.Following.{Divergence, Followed, follow_all}
 use Rattle.interleavings.specs.Recording.{Recording}
 use Rattle.interleavings.specs.TraceLists.{TraceLists}
 use Rattle.linkage.specs.Sources.{event_count}
-use Rattle.event_order.specs.Laws.{ExtensionsAreWhole, traces_of}
+use Rattle.event_order.specs.Laws.{ExtensionsAreWhole}
 use Rattle.history_laws.specs.Laws.{SchedulesReplayRecordings}
 use Rattle.history_laws.specs.RecordedRuns.{IsScheduleOf}
 use Rattle.replayer.specs.Replays.{Results}

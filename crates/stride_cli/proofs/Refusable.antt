@@ -21,9 +21,8 @@ use Rattle.stride_cli.specs.declared.status.ProgramFault.{ProgramFault}
 use Rattle.stride_cli.specs.declared.status.Status.{Status}
 use Rattle.stride_cli.specs.declared.status.Status.TheVariants as statuses
 use Rattle.stride_cli.specs.declared.words.Command.{Command}
-use Rattle.stride_cli.specs.declared.words.Command.TheVariants.{Check, Demo, Follow, Infer, Replay, Show, Sim, Upgrade}
 use Rattle.stride_cli.specs.declared.words.Live.{Live}
-use Rattle.stride_cli.specs.Answers.{Answer, AnswersBundle, AnswersInference, AnswersInput, AnswersLinks, AnswersLogs, AnswersOrder, AnswersProgram, AnswersRecorded, AnswersRun, AnswersSimulated, AnswersSpelled, AnswersVerdict, followed, judged, order_of, played, program_part, refused, refused_member, shown, unlinked, upgraded, with_order}
+use Rattle.stride_cli.specs.Answers.{Answer, AnswersBundle, AnswersCanonical, AnswersFollowed, AnswersInference, AnswersInput, AnswersLinks, AnswersLogs, AnswersOrder, AnswersProgram, AnswersRecorded, AnswersRun, AnswersSimulated, AnswersVerdict, order_of, played, program_part, refused, refused_member, shown, unlinked, upgraded}
 use Rattle.stride_cli.specs.Gives.{Refuses}
 use Rattle.stride_cli.specs.GivesLive.{RefusesLive}
 use Rattle.stride_cli.specs.Inferring.{Circular, Diverging, Inference, Inferred, Ordered, Unlinked}
@@ -39,14 +38,6 @@ module _ (row : Refusable) where
   Fits answer = RefusesOnly row answer.status
 
   module _ (program : row.program ≡ true) where
-    by_judged : (text : List ℕ) (verdict : Option Fault) (accepted : Answer) → Fits accepted → Fits (judged text verdict accepted)
-    by_judged text (Some fault) accepted fits = program
-    by_judged text None accepted fits = fits
-
-    by_spelled : (text : List ℕ) (s : Result Listing LineFault) (accepted : Listing → Answer) (answer : Answer) → ((p : Listing) → Fits (accepted p)) → AnswersSpelled text s accepted answer → Fits answer
-    by_spelled text (Err fault) accepted answer fits is = subst Fits (sym is) program
-    by_spelled text (Ok p) accepted answer fits is = subst Fits (sym is.1.1) (by_judged text is.0 (accepted p) (fits p))
-
     by_verdict : (text : List ℕ) (verdict : Option Fault) (Accepted : Answer → Type 0) (answer : Answer) → (Accepted answer → Fits answer) → AnswersVerdict text verdict Accepted answer → Fits answer
     by_verdict text (Some fault) Accepted answer fits is = subst Fits (sym is) program
     by_verdict text None Accepted answer fits is = fits is
@@ -55,22 +46,21 @@ module _ (row : Refusable) where
     by_program text (Err fault) Accepted answer fits is = subst Fits (sym is) program
     by_program text (Ok p) Accepted answer fits is = by_verdict text is.0 (Accepted p) answer (fits p) is.1.1
 
-    module _ (member : row.member ≡ true) where
-      by_played : (run : Option Machine) (p : Listing) (order : List ℕ) (place : ℕ) → Fits (played run (refused_member p order place))
-      by_played (Some m) p order place = tt
-      by_played None p order place = member
+    by_order : (Answers : List ℕ → Answer → Type 0) (r : Result (List ℕ) LineFault) (answer : Answer) → ((order : List ℕ) → Answers order answer → Fits answer) → AnswersOrder r Answers answer → Fits answer
+    by_order Answers (Err fault) answer fits is = subst Fits (sym is) program
+    by_order Answers (Ok order) answer fits is = fits order is
 
-      by_followed : (limits : Limits) (p : Listing) (r : Result (List ℕ) LineFault) → Fits (with_order (followed limits p) r)
-      by_followed limits p (Err fault) = program
-      by_followed limits p (Ok order) = by_played (replayed p limits.fuel order) p order _
+  module _ (member : row.member ≡ true) where
+    by_played : (run : Option Machine) (p : Listing) (order : List ℕ) (place : ℕ) → Fits (played run (refused_member p order place))
+    by_played (Some m) p order place = tt
+    by_played None p order place = member
 
-      by_recorded : (limits : Limits) (p : Listing) (found : Option ℕ) (recording : Recording) (answer : Answer) → AnswersRecorded limits p found recording answer → Fits answer
-      by_recorded limits p None recording answer is = subst Fits (sym is.shows) tt
-      by_recorded limits p (Some place) recording answer is = subst Fits (sym is) member
+    by_followed : (limits : Limits) (p : Listing) (order : List ℕ) (answer : Answer) → AnswersFollowed limits p order answer → Fits answer
+    by_followed limits p order answer is = subst Fits (sym is) (by_played (replayed p limits.fuel order) p order _)
 
-      by_order : (limits : Limits) (p : Listing) (r : Result (List ℕ) LineFault) (answer : Answer) → AnswersOrder r (AnswersSimulated limits p) answer → Fits answer
-      by_order limits p (Err fault) answer is = subst Fits (sym is) program
-      by_order limits p (Ok order) answer is = by_recorded limits p (stranger (length p.threads) order) _ answer is
+    by_recorded : (limits : Limits) (p : Listing) (found : Option ℕ) (recording : Recording) (answer : Answer) → AnswersRecorded limits p found recording answer → Fits answer
+    by_recorded limits p None recording answer is = subst Fits (sym is.shows) tt
+    by_recorded limits p (Some place) recording answer is = subst Fits (sym is) member
 
   module _ (bundle : row.bundle ≡ true) where
     by_shown : (r : Result Bundled FormatRefusal) → Fits (shown r)
@@ -112,11 +102,14 @@ module _ (limits : Limits) (bytes : List ℕ) where
 
   -- an answer to an input
   answer_fits : (name : Named) (command : Command) (answer : Answer) → offline_named name ≡ Some command → Answered answer command → CanEnd name answer.status
-  answer_fits named.Check command answer is answers = by_spelled (can_refuse named.Check) refl bytes (spelled bytes) _ answer (λ p. tt) (subst (Answered answer) (sym (some_same is)) answers)
+  answer_fits named.Check command answer is answers =
+      by_program (can_refuse named.Check) refl bytes (spelled bytes) AnswersCanonical answer (λ p shows. subst (Fits (can_refuse named.Check)) (sym shows) tt) (subst (Answered answer) (sym (some_same is)) answers)
   answer_fits named.Follow command answer is answers =
-      by_spelled (can_refuse named.Follow) refl (program_part bytes) (spelled (program_part bytes)) _ answer (λ p. by_followed (can_refuse named.Follow) refl refl limits p (order_of bytes)) (subst (Answered answer) (sym (some_same is)) answers)
+      by_program (can_refuse named.Follow) refl (program_part bytes) (spelled (program_part bytes)) _ answer
+      (λ p. by_order (can_refuse named.Follow) refl (AnswersFollowed limits p) (order_of bytes) answer (λ order. by_followed (can_refuse named.Follow) refl limits p order answer)) (subst (Answered answer) (sym (some_same is)) answers)
   answer_fits named.Sim command answer is answers =
-      by_program (can_refuse named.Sim) refl (program_part bytes) (spelled (program_part bytes)) _ answer (λ p of_order. by_order (can_refuse named.Sim) refl refl limits p (order_of bytes) answer of_order) (subst (Answered answer) (sym (some_same is)) answers)
+      by_program (can_refuse named.Sim) refl (program_part bytes) (spelled (program_part bytes)) _ answer
+      (λ p. by_order (can_refuse named.Sim) refl (AnswersSimulated limits p) (order_of bytes) answer (λ order. by_recorded (can_refuse named.Sim) refl limits p (stranger (length p.threads) order) _ answer)) (subst (Answered answer) (sym (some_same is)) answers)
   answer_fits named.Show command answer is answers = subst (Fits (can_refuse named.Show)) (sym (subst (Answered answer) (sym (some_same is)) answers)) (by_shown (can_refuse named.Show) refl (reading bytes))
   answer_fits named.Upgrade command answer is answers = subst (Fits (can_refuse named.Upgrade)) (sym (subst (Answered answer) (sym (some_same is)) answers)) (by_upgraded (can_refuse named.Upgrade) refl (reading bytes))
   answer_fits named.Infer command answer is answers =

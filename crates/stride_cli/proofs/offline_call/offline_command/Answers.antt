@@ -1,6 +1,6 @@
 use Rattle.std.proofs.Common.{◌∙◌, sym}
 use Rattle.stride_cli.specs.LimitsSeen.{limits_seen}
-use Rattle.stride_cli.proofs.Demos.{demo_looked, demo_refused, demo_reported, reading_no_demo}
+use Rattle.stride_cli.proofs.Demos.{demo_refused, reading_no_demo}
 use Rattle.stride_cli.proofs.Refusable.{refused_fits, unread_fits}
 use Rattle.stride_cli.proofs.offline_call.offline_command.Goals as goal
 
