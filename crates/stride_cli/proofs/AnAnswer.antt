@@ -2,11 +2,10 @@
 use Rattle.std.proofs.Common.{◌≡◌, ◌≤◌, ◌⊎◌, inl, inr, ℕ, Bool, true, false, List, Option, Some, None, Result, Ok, Err, refl, length, nat_lt}
 use Rattle.std.specs.Bool.{MatchBool}
 use Rattle.stride_base.specs.declared.limits.TheConstants.{INPUT_LIMIT}
-use Rattle.stride_isa.specs.Faults.{Fault, IsVerdict}
 use Rattle.stride_isa.specs.Laws.{HasVerdict}
 use Rattle.stride_isa.specs.Listing.{Listing}
 use Rattle.stride_isa.specs.Validity.{IsValid}
-use Rattle.assembler.specs.Programs.{LineFault, spelled}
+use Rattle.assembler.specs.Canonical.{canonical}
 use Rattle.interleavings.specs.declared.traces.Place.{Place}
 use Rattle.interleavings.specs.Following.{Divergence, Followed, follow_all}
 use Rattle.interleavings.specs.TraceLists.{TraceLists}
@@ -26,7 +25,7 @@ use Rattle.log_format.specs.Reading.{reading, Refusal as FormatRefusal}
 use Rattle.stride_cli.specs.declared.words.Command.{Command}
 use Rattle.stride_cli.specs.declared.words.Command.TheVariants.{Demo, Check, Follow, Infer, Replay, Show, Sim, Upgrade}
 use Rattle.stride_cli.specs.declared.status.Status.TheVariants.{Bundle, Diverges, Usage, TooLong}
-use Rattle.stride_cli.specs.Answers.{Answer, AnswersBundle, AnswersBy, AnswersInference, AnswersInput, AnswersLinks, AnswersLogs, AnswersProgram, AnswersRun, AnswersSpelled, AnswersVerdict, IsAnswer, circular, done, judged, program_part, refused, refused_code, refused_text, shown, unlinked, upgraded}
+use Rattle.stride_cli.specs.Answers.{Answer, AnswersBundle, AnswersBy, AnswersCanonical, AnswersFollowed, AnswersInference, AnswersInput, AnswersLinks, AnswersLogs, AnswersOrder, AnswersRun, AnswersSimulated, IsAnswer, circular, done, followed, order_of, program_part, refused, shown, unlinked, upgraded}
 use Rattle.stride_cli.specs.Inferring.{Circular, Diverging, Inference, Inferred, IsInferred, IsInferredBy, IsInferredOf, Ordered, Unlinked}
 use Rattle.stride_cli.specs.Laws.{AnAnswer}
 use Rattle.stride_cli.specs.Reports.{infer_report, replay_report}
@@ -37,10 +36,7 @@ use Rattle.stride_cli.proofs.Readings.{in_range}
 use Rattle.demo.specs.Laws.{DemoOrdersNameThreads, DemoProgramsAreValid}
 use Rattle.stride_cli.proofs.Demonstrations.{demo_answer}
 use Rattle.stride_cli.proofs.Simulations.{Laws as Recorded, simulation}
-
-text_answer : HasVerdict → (text : List ℕ) (s : Result Listing LineFault) (accepted : Listing → Answer) → (answer : Answer) × AnswersSpelled text s accepted answer
-text_answer each text (Err fault) accepted = (refused_text fault, refl)
-text_answer each text (Ok p) accepted = let judgement = each p in (judged text judgement.0 (accepted p), (judgement.0, (judgement.1, refl)))
+use Rattle.stride_cli.proofs.Texts.{order_answer, text_answer}
 
 -- what the laws say of words, of verdicts, of bundles, of linking, of the direct order and of recordings
 pub record Laws : Type 0 where
@@ -100,25 +96,16 @@ module _ (there : Laws) (bytes : List ℕ) where
         let answered = shown bundle reads p valid found.0 found.1 in
         (answered.0, (found.0, (found.1, answered.1)))
 
-    verdict_answer : (bundle : Bundled) → reading bytes ≡ Ok bundle → (p : Listing) (verdict : Option Fault) → IsVerdict p verdict → (answer : Answer) × AnswersVerdict bundle.text verdict (AnswersLogs Shows bundle p) answer
-    verdict_answer bundle reads p (Some fault) judged = (refused_code bundle.text fault, refl)
-    verdict_answer bundle reads p None judged = logs_answer bundle reads p judged
-
-    program_answer : (bundle : Bundled) → reading bytes ≡ Ok bundle → (s : Result Listing LineFault) → (answer : Answer) × AnswersProgram bundle.text s (AnswersLogs Shows bundle) answer
-    program_answer bundle reads (Err fault) = (refused_text fault, refl)
-    program_answer bundle reads (Ok p) =
-        let judgement = there.verdict p in
-        let answered = verdict_answer bundle reads p judgement.0 judgement.1 in
-        (answered.0, (judgement.0, (judgement.1, answered.1)))
-
     bundle_answer : (r : Result Bundled FormatRefusal) → reading bytes ≡ r → (answer : Answer) × AnswersBundle Shows r answer
     bundle_answer (Err refusal) reads = (refused (Bundle refusal.kind refusal.offset), refl)
-    bundle_answer (Ok bundle) reads = program_answer bundle reads (spelled bundle.text)
+    bundle_answer (Ok bundle) reads = text_answer bundle.text (AnswersLogs Shows bundle) there.verdict (logs_answer bundle reads)
 
 input_answer : Laws → (limits : Limits) → 1 ≤ limits.fuel → (command : Command) (bytes : List ℕ) → (answer : Answer) × AnswersInput limits command bytes answer
-input_answer there limits some Check bytes = text_answer there.verdict bytes (spelled bytes) _
-input_answer there limits some Follow bytes = text_answer there.verdict (program_part bytes) (spelled (program_part bytes)) _
-input_answer there limits some Sim bytes = simulation there.recordings limits some there.verdict bytes
+input_answer there limits some Check bytes = text_answer bytes AnswersCanonical there.verdict (λ p valid. (done (canonical p), refl))
+input_answer there limits some Follow bytes =
+    text_answer (program_part bytes) (λ p. AnswersOrder (order_of bytes) (AnswersFollowed limits p)) there.verdict (λ p valid. order_answer (AnswersFollowed limits p) (λ order. (followed limits p order, refl)) (order_of bytes))
+input_answer there limits some Sim bytes =
+    text_answer (program_part bytes) (λ p. AnswersOrder (order_of bytes) (AnswersSimulated limits p)) there.verdict (λ p valid. order_answer (AnswersSimulated limits p) (simulation there.recordings limits some p valid) (order_of bytes))
 input_answer there limits some Show bytes = (shown (reading bytes), refl)
 input_answer there limits some Upgrade bytes = (upgraded (reading bytes), refl)
 input_answer there limits some Infer bytes = bundle_answer there bytes AnswersLinks (shown_links there bytes) (reading bytes) refl

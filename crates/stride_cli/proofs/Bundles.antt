@@ -1,6 +1,5 @@
 -- The answer to a bundle, by what became of its text, its logs and its events.
-use Rattle.std.proofs.Common.{◌≡◌, ℕ, List, [], Option, Some, None, Result, Ok, Err, refl, sym, ap, subst}
-use Rattle.stride_isa.specs.Faults.{Fault}
+use Rattle.std.proofs.Common.{◌≡◌, ℕ, List, None, Result, Ok, Err, refl, sym, ap, subst}
 use Rattle.stride_isa.specs.Listing.{Listing}
 use Rattle.stride_isa.specs.Validity.{IsValid}
 use Rattle.interleavings.specs.Following.{Divergence, Followed, follow_all}
@@ -14,35 +13,13 @@ use Rattle.thread_rerun.specs.declared.rerun_error.RerunError.TheVariants as rer
 use Rattle.event_order.specs.Laws.{traces_of}
 use Rattle.stride_cli.specs.declared.refusal.Refusal.{Refusal}
 use Rattle.stride_cli.specs.declared.refusal.Refusal.TheVariants as refusals
-use Rattle.stride_cli.specs.declared.status.ProgramFault.{ProgramFault}
-use Rattle.stride_cli.specs.declared.status.Status.{Status}
-use Rattle.stride_cli.specs.declared.status.Status.TheVariants.{Done, Program}
-use Rattle.stride_cli.specs.declared.status.Status.TheVariants as statuses
-use Rattle.stride_cli.specs.Answers.{Answer, AnswersBundle, AnswersInference, AnswersLogs, AnswersProgram, AnswersSpelled, AnswersVerdict, done, judged, refused}
+use Rattle.stride_cli.specs.Answers.{Answer, AnswersBundle, AnswersInference, AnswersLogs, AnswersProgram}
 use Rattle.stride_cli.specs.Bundles.{IsRerun, Nothing, RefusesEvents}
 use Rattle.stride_cli.specs.Gives.{RefusesBy}
 use Rattle.stride_cli.specs.Inferring.{Circular, Diverging, Inference, Inferred, IsInferredBy, IsInferredOf, Ordered, Unlinked}
 use Rattle.stride_cli.specs.Inputs.{Accepts}
 use Rattle.stride_cli.specs.Refusals.{of_rerun}
-
--- a refusal by the verdict is one whatever is answered to a valid program
-by_verdict : (text : List ℕ) (verdict : Option Fault) (Accepted : Answer → Type 0) (status : Status) → (status ≡ Done → ⊥) → refused status ≡ judged text verdict (done []) → AnswersVerdict text verdict Accepted (refused status)
-by_verdict text (Some fault) Accepted status other is = is
-by_verdict text None Accepted status other is = absurd (other (ap (λ (answer : Answer). answer.status) is))
-
--- a refusal of a text is one whatever is answered to a valid program
-pub unaccepted : (text : List ℕ) (s : Result Listing LineFault) (Accepted : Listing → Answer → Type 0) (status : Status) → (status ≡ Done → ⊥) → AnswersSpelled text s (λ p. done []) (refused status) → AnswersProgram text s Accepted (refused status)
-unaccepted text (Err fault) Accepted status other is = is
-unaccepted text (Ok p) Accepted status other is = (is.0, (is.1.0, by_verdict text is.0 (Accepted p) status other is.1.1))
-
--- a text is refused by a fault of the program alone
-not_by_verdict : (text : List ℕ) (verdict : Option Fault) (status : Status) → (status ≡ Done → ⊥) → ((fault : ProgramFault) → status ≡ Program fault → ⊥) → refused status ≡ judged text verdict (done []) → ⊥
-not_by_verdict text (Some fault) status done program is = program _ (ap (λ (answer : Answer). answer.status) is)
-not_by_verdict text None status done program is = done (ap (λ (answer : Answer). answer.status) is)
-
-pub only_programs : (text : List ℕ) (s : Result Listing LineFault) (status : Status) → (status ≡ Done → ⊥) → ((fault : ProgramFault) → status ≡ Program fault → ⊥) → AnswersSpelled text s (λ p. done []) (refused status) → ⊥
-only_programs text (Err fault) status done program is = program _ (ap (λ (answer : Answer). answer.status) is)
-only_programs text (Ok p) status done program is = not_by_verdict text is.0 status done program is.1.1
+use Rattle.stride_cli.proofs.Accepted.{lent_refused as text_lent}
 
 -- what follows came to, where running again came to this
 pub again_ok : (p : Listing) (r : Result (List Followed) Divergence) (a : Again) → again_if p r ≡ Ok a → (all : List Followed) × ((r ≡ Ok all) × (a.traces ≡ traces_of p all))
@@ -75,25 +52,11 @@ module _ (Shows : Listing → Bundled → Inferred → Answer → Type 0) (bytes
       to_logs rerun.bundle p answer rerun.reads rerun.program rerun.valid
       (inference, (subst Q (sym rerun.follows) (subst P rerun.traces_are is), shows))
 
-  -- the refusal of the text of a bundle
-  accept_refused : (bundle : Bundled) (refusal : Refusal) → reading bytes ≡ Ok bundle → Accepts bundle.text (Err refusal) → RefusesBy (AnswersBundle Shows (reading bytes)) refusal
-  accept_refused bundle (refusals.Program fault) reads is =
-      (to_program bundle _ reads (unaccepted bundle.text (spelled bundle.text) (AnswersLogs Shows bundle) (statuses.Program fault) (λ e. cc) (is (λ p. done []))))
-  accept_refused bundle (refusals.Bundle kind offset) reads is =
-      absurd (only_programs bundle.text (spelled bundle.text) (statuses.Bundle kind offset) (λ e. cc) (λ fault e. cc) (is (λ p. done [])))
-  accept_refused bundle (refusals.Diverges thread place) reads is =
-      absurd (only_programs bundle.text (spelled bundle.text) (statuses.Diverges thread place) (λ e. cc) (λ fault e. cc) (is (λ p. done [])))
-  accept_refused bundle (refusals.NoLinkage fault) reads is =
-      absurd (only_programs bundle.text (spelled bundle.text) (statuses.NoLinkage fault) (λ e. cc) (λ fault e. cc) (is (λ p. done [])))
-  accept_refused bundle (refusals.NotEnabled place fault) reads is =
-      absurd (only_programs bundle.text (spelled bundle.text) (statuses.NotEnabled place fault) (λ e. cc) (λ fault e. cc) (is (λ p. done [])))
-  accept_refused bundle refusals.NoMemory reads is = tt
-
-  -- the same of a text that is lent
+  -- the refusal of the text of a bundle, which is lent
   pub lent_refused : (bundle : Bundled) (lent : List ℕ) (refusal : Refusal) → reading bytes ≡ Ok bundle → lent ≡ bundle.text → Accepts lent (Err refusal) → RefusesBy (AnswersBundle Shows (reading bytes)) refusal
   lent_refused bundle lent refusal reads same is =
-      let P : List ℕ → Type 0 = λ text. Accepts text (Err refusal) in
-      accept_refused bundle refusal reads (subst P same is)
+      let Q : Result Bundled FormatRefusal → Type 0 = λ r. RefusesBy (AnswersBundle Shows r) refusal in
+      subst Q (sym reads) (text_lent bundle.text (AnswersLogs Shows bundle) lent refusal same is)
 
   -- the refusal of logs from which a thread diverges
   pub rerun_refused : (bundle : Bundled) (p : Listing) (error : RerunError) → reading bytes ≡ Ok bundle → spelled bundle.text ≡ Ok p → IsValid p → IsAnswer (Err error) (again p bundle.fuel bundle.logs) → RefusesBy (AnswersBundle Shows (reading bytes)) (of_rerun error)

@@ -12,12 +12,12 @@ use Rattle.interleavings.specs.Driving.{driven, stranger}
 use Rattle.interleavings.specs.Following.{follow_all}
 use Rattle.stride_cli.specs.Answers.{Answer, AnswersDemo, demo_recording, done, setting_of}
 use Rattle.stride_cli.specs.Inferring.{Inferred, Ordered}
-use Rattle.stride_cli.specs.Looks.{demo_looks, followed_looks, inferring_looks}
+use Rattle.stride_cli.specs.Looks.{demo_looks, followed_looks}
 use Rattle.stride_cli.specs.Playing.{TellsSummary}
 use Rattle.stride_cli.specs.Reports.{summary_report}
 use Rattle.stride_cli.specs.Settings.{Limits, demo_limits}
 use Rattle.stride_cli.specs.Again.{IsLogged}
-use Rattle.stride_cli.specs.Headline.{IsRecordedRun}
+use Rattle.stride_cli.specs.Headline.{IsRecordedRun, look_limit}
 use Rattle.stride_cli.specs.LiveLooks.{RunLooks}
 use Rattle.stride_isa.specs.Validity.{IsValid}
 use Rattle.history_laws.specs.Laws.{SchedulesReplayRecordings}
@@ -82,8 +82,8 @@ summary_answers number logs report before after logged told =
     record { inferred = tells.inferred; ordered = tells.ordered; machine = tells.machine; runs = tells.runs; shows = ap done tells.shows }
 
 -- and their share that of the demonstration
-pub summary_looks : (number : ℕ) (logs : List (List LogEntry)) → logs ≡ (demo_recording number).logs → demo_looks number ≡ followed_looks inferring_looks (demo_program number) (follow_all (demo_program number) demo_limits.fuel logs)
-summary_looks number logs logged = ap (λ (all : List (List LogEntry)). followed_looks inferring_looks (demo_program number) (follow_all (demo_program number) demo_limits.fuel all)) (sym logged)
+pub summary_looks : (number : ℕ) (logs : List (List LogEntry)) → logs ≡ (demo_recording number).logs → demo_looks number ≡ followed_looks look_limit (demo_program number) (follow_all (demo_program number) demo_limits.fuel logs)
+summary_looks number logs logged = ap (λ (all : List (List LogEntry)). followed_looks look_limit (demo_program number) (follow_all (demo_program number) demo_limits.fuel all)) (sym logged)
 
 module _ (number : ℕ) (p : Listing) (limits : Limits) (logs : List (List LogEntry)) (before after : ℕ) (p_is : p ≡ demo_program number) (limits_are : limits ≡ demo_limits) where
   module _ (order : List ℕ) (order_is : order ≡ demo_order number) (logged : logs ≡ (driven (setting_of limits p) order).logs) where
@@ -103,11 +103,11 @@ module _ (number : ℕ) (p : Listing) (limits : Limits) (logs : List (List LogEn
         summary_answers number logs report before after demo_logs (subst Q p_is (subst L limits_are told))
 
     -- and their share that of the demonstration
-    pub looks_by : demo_looks number ≡ followed_looks inferring_looks p (follow_all p limits.fuel logs)
+    pub looks_by : demo_looks number ≡ followed_looks look_limit p (follow_all p limits.fuel logs)
     looks_by =
         summary_looks number logs demo_logs
-        ∙ ap (λ (q : Listing). followed_looks inferring_looks q (follow_all q demo_limits.fuel logs)) (sym p_is)
-        ∙ ap (λ (l : Limits). followed_looks inferring_looks p (follow_all p l.fuel logs)) (sym limits_are)
+        ∙ ap (λ (q : Listing). followed_looks look_limit q (follow_all q demo_limits.fuel logs)) (sym p_is)
+        ∙ ap (λ (l : Limits). followed_looks look_limit p (follow_all p l.fuel logs)) (sym limits_are)
 
   module _ (logged : IsLogged limits p logs) where
     -- the summary of logs of threads that ran beside each other is that of their replay
@@ -117,7 +117,7 @@ module _ (number : ℕ) (p : Listing) (limits : Limits) (logs : List (List LogEn
         let Q : Listing → Type 0 = λ q. IsRecordedRun demo_limits q (summary_report q) report before after in
         subst Q p_is (subst L limits_are (summary_run replays limits p logs report before after valid some logged told))
 
-    pub live_looks : after ≤ before + followed_looks inferring_looks p (follow_all p limits.fuel logs) → RunLooks demo_limits (Ok (demo_program number)) before after
+    pub live_looks : after ≤ before + followed_looks look_limit p (follow_all p limits.fuel logs) → RunLooks demo_limits (Ok (demo_program number)) before after
     live_looks looks =
         let L : Limits → Type 0 = λ l. RunLooks l (Ok p) before after in
         let Q : Listing → Type 0 = λ q. RunLooks demo_limits (Ok q) before after in

@@ -1,56 +1,33 @@
 -- The report of a schedule that was played to its end.
-use Rattle.std.proofs.Common.{◌≡◌, ℕ, ◌∙◌, ◌++◌, List, [], length, sym, ap, subst, slice_index, None, Result, Err, unwrap_or}
-use Rattle.std.specs.Prelude.{codes}
+use Rattle.std.proofs.Common.{◌≡◌, ℕ, ◌∙◌, List, length, sym, ap, subst, slice_index, None, Result, Err, unwrap_or}
 use Rattle.stride_isa.specs.Listing.{Listing}
 use Rattle.sc_machine.specs.Schedule.{refused_place}
-use Rattle.assembler.specs.Programs.{LineFault, spelled}
+use Rattle.assembler.specs.Programs.{LineFault}
 use Rattle.replayer.specs.declared.replay_error.ReplayError.{ReplayError}
 use Rattle.replayer.specs.declared.replay_error.ReplayError.TheVariants as replays
 use Rattle.replayer.specs.Replays.{IsAnswer, IsRefusedAt, IsRunOf, Results}
 use Rattle.stride_cli.specs.declared.words.Command.TheVariants.{Follow}
-use Rattle.stride_cli.specs.declared.refusal.Refusal.{Refusal}
-use Rattle.stride_cli.specs.declared.refusal.Refusal.TheVariants as refusals
 use Rattle.stride_cli.specs.declared.status.Status.TheVariants.{NotEnabled}
-use Rattle.stride_cli.specs.declared.status.Status.TheVariants as statuses
 use Rattle.stride_cli.specs.Gives.{Refuses}
-use Rattle.stride_cli.specs.Inputs.{Accepts, IsInput}
+use Rattle.stride_cli.specs.Inputs.{IsInput}
 use Rattle.stride_cli.specs.Refusals.{of_replay}
-use Rattle.stride_cli.specs.Answers.{Answer, AnswersInput, AnswersSpelled, done, followed, member_fault, order_of, played, program_part, refused, refused_member, with_order}
-use Rattle.stride_cli.specs.Reports.{ends_section}
+use Rattle.stride_cli.specs.Answers.{Answer, AnswersFollowed, AnswersInput, AnswersOrder, AnswersProgram, done, followed, member_fault, order_of, played, program_part, refused, refused_member}
+use Rattle.stride_cli.specs.Runs.{run_section}
 use Rattle.stride_cli.specs.Settings.{Limits}
-use Rattle.stride_cli.proofs.Bundles.{only_programs}
-
--- the refusal of the program
-text_refused : (limits : Limits) (bytes : List ℕ) (refusal : Refusal) → Accepts (program_part bytes) (Err refusal) → Refuses limits Follow bytes refusal
-text_refused limits bytes (refusals.Program fault) is = is (λ p. with_order (followed limits p) (order_of bytes))
-text_refused limits bytes (refusals.Bundle kind offset) is =
-    absurd (only_programs (program_part bytes) (spelled (program_part bytes)) (statuses.Bundle kind offset) (λ e. cc) (λ fault e. cc) (is (λ p. done [])))
-text_refused limits bytes (refusals.Diverges thread place) is =
-    absurd (only_programs (program_part bytes) (spelled (program_part bytes)) (statuses.Diverges thread place) (λ e. cc) (λ fault e. cc) (is (λ p. done [])))
-text_refused limits bytes (refusals.NoLinkage fault) is =
-    absurd (only_programs (program_part bytes) (spelled (program_part bytes)) (statuses.NoLinkage fault) (λ e. cc) (λ fault e. cc) (is (λ p. done [])))
-text_refused limits bytes (refusals.NotEnabled place fault) is =
-    absurd (only_programs (program_part bytes) (spelled (program_part bytes)) (statuses.NotEnabled place fault) (λ e. cc) (λ fault e. cc) (is (λ p. done [])))
-text_refused limits bytes refusals.NoMemory is = tt
-
--- the same of a text that is lent
-pub program_refused : (limits : Limits) (bytes lent : List ℕ) (refusal : Refusal) → lent ≡ program_part bytes → Accepts lent (Err refusal) → Refuses limits Follow bytes refusal
-program_refused limits bytes lent refusal same is =
-    let P : List ℕ → Type 0 = λ text. Accepts text (Err refusal) in
-    text_refused limits bytes refusal (subst P same is)
 
 -- the answer to an accepted program with an order
 accepts : (limits : Limits) (bytes : List ℕ) (p : Listing) (order : List ℕ) (answer : Answer) → IsInput bytes p order → followed limits p order ≡ answer → AnswersInput limits Follow bytes answer
 accepts limits bytes p order answer input is =
-    let Q : Result Listing LineFault → Type 0 = λ s. AnswersSpelled (program_part bytes) s (λ q. with_order (followed limits q) (order_of bytes)) answer in
-    subst Q (sym input.program) (None, (input.valid, sym is ∙ sym (ap (with_order (followed limits p)) input.ordered)))
+    let P : Result Listing LineFault → Type 0 = λ s. AnswersProgram (program_part bytes) s (λ q. AnswersOrder (order_of bytes) (AnswersFollowed limits q)) answer in
+    let Q : Result (List ℕ) LineFault → Type 0 = λ r. AnswersOrder r (AnswersFollowed limits p) answer in
+    subst P (sym input.program) (None, (input.valid, subst Q (sym input.ordered) (sym is)))
 
 -- the report of a run is the answer
-pub followed_done : (limits : Limits) (bytes : List ℕ) (p : Listing) (order : List ℕ) (results : Results) (report : List ℕ) → IsInput bytes p order → IsRunOf p limits.fuel order results → report ≡ (codes "transcript\n" ++ results.transcript) ++ ends_section results.ends → AnswersInput limits Follow bytes (done report)
+pub followed_done : (limits : Limits) (bytes : List ℕ) (p : Listing) (order : List ℕ) (results : Results) (report : List ℕ) → IsInput bytes p order → IsRunOf p limits.fuel order results → report ≡ run_section results → AnswersInput limits Follow bytes (done report)
 followed_done limits bytes p order results report input run reported =
     accepts limits bytes p order (done report) input
     (ap (λ machine. played machine (refused_member p order (unwrap_or (refused_place p limits.fuel order) 0))) run.runs
-    ∙ sym (ap done (reported ∙ ap (λ (r : Results). (codes "transcript\n" ++ r.transcript) ++ ends_section r.ends) run.shows)))
+    ∙ sym (ap done (reported ∙ ap run_section run.shows)))
 
 -- the refusal of an order that is no schedule
 pub place_refused : (limits : Limits) (bytes : List ℕ) (p : Listing) (order : List ℕ) (place : ℕ) → IsInput bytes p order → IsRefusedAt p limits.fuel order place → AnswersInput limits Follow bytes (refused (NotEnabled place (member_fault (length p.threads) (slice_index order place))))

@@ -4,6 +4,7 @@ pub mod BundleLengths
 pub mod Bundles
 pub mod BundlesReplayed
 pub mod Demonstrations
+pub mod Demos
 pub mod Events
 pub mod Followed
 pub mod Inferences
@@ -11,15 +12,15 @@ pub mod LeastRuns
 pub mod Lines
 pub mod LiveKept
 pub mod LivePrograms
-pub mod Logless
-pub mod Members
 pub mod OneAnswer
 pub mod Readings
 pub mod RecordedBundles
 pub mod RecordedRuns
 pub mod Recordings
+pub mod Refusable
 pub mod Replayed
 pub mod ReplaysAreRuns
 pub mod Simulated
 pub mod Simulations
 pub mod SimulationsAreRuns
+pub mod Texts

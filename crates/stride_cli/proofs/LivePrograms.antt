@@ -1,5 +1,5 @@
 -- The answer of a live command to the program that its input spells, or its refusal.
-use Rattle.std.proofs.Common.{◌≡◌, ℕ, true, List, [], Option, Some, None, Result, Ok, Err, sym, ap, subst}
+use Rattle.std.proofs.Common.{◌≡◌, ℕ, true, List, Option, Some, None, Result, Ok, Err, sym, ap, subst}
 use Rattle.stride_isa.specs.Faults.{Fault, IsVerdict}
 use Rattle.stride_isa.specs.Laws.{OneVerdict}
 use Rattle.stride_isa.specs.Listing.{Listing}
@@ -11,13 +11,13 @@ use Rattle.stride_cli.specs.declared.status.ProgramFault.{ProgramFault}
 use Rattle.stride_cli.specs.declared.status.Status.TheVariants as statuses
 use Rattle.stride_cli.specs.declared.words.Live.{Live}
 use Rattle.stride_cli.specs.declared.words.Live.TheVariants.{Bundle, Demo, Run}
-use Rattle.stride_cli.specs.Answers.{Answer, AnswersProgram, AnswersVerdict, done, refused}
+use Rattle.stride_cli.specs.Answers.{Answer, AnswersProgram, AnswersVerdict, refused}
 use Rattle.stride_cli.specs.GivesLive.{RefusesLive}
 use Rattle.stride_cli.specs.Inputs.{Accepts}
 use Rattle.stride_cli.specs.LiveAnswers.{AnswersLive, AnswersLiveInput}
 use Rattle.stride_cli.specs.Settings.{Limits}
 use Rattle.stride_cli.specs.Words.{live_reads}
-use Rattle.stride_cli.proofs.Bundles.{only_programs, unaccepted}
+use Rattle.stride_cli.proofs.Accepted.{only_programs, whatever_accepted}
 
 -- what is answered to the text of a command that reads one
 of_text : (limits : Limits) (live : Live) (bytes : List ℕ) (answer : Answer) → live_reads live ≡ true → AnswersProgram bytes (spelled bytes) (AnswersLive limits live) answer → AnswersLiveInput limits live bytes answer
@@ -33,15 +33,15 @@ to_text limits (Demo number) bytes answer reads is = absurd (cc)
 -- the refusal of a text
 text_refused : (limits : Limits) (live : Live) → live_reads live ≡ true → (bytes : List ℕ) (refusal : Refusal) → Accepts bytes (Err refusal) → RefusesLive limits live bytes refusal
 text_refused limits live reads bytes (refusals.Program fault) is =
-    of_text limits live bytes (refused (statuses.Program fault)) reads (unaccepted bytes (spelled bytes) (AnswersLive limits live) (statuses.Program fault) (λ e. cc) (is (λ p. done [])))
+    of_text limits live bytes (refused (statuses.Program fault)) reads (whatever_accepted bytes (AnswersLive limits live) (refused (statuses.Program fault)) is)
 text_refused limits live reads bytes (refusals.Bundle kind offset) is =
-    only_programs bytes (spelled bytes) (statuses.Bundle kind offset) (λ e. cc) (λ fault e. cc) (is (λ p. done []))
+    only_programs bytes (spelled bytes) (statuses.Bundle kind offset) (λ fault e. cc) is
 text_refused limits live reads bytes (refusals.Diverges thread place) is =
-    only_programs bytes (spelled bytes) (statuses.Diverges thread place) (λ e. cc) (λ fault e. cc) (is (λ p. done []))
+    only_programs bytes (spelled bytes) (statuses.Diverges thread place) (λ fault e. cc) is
 text_refused limits live reads bytes (refusals.NoLinkage fault) is =
-    only_programs bytes (spelled bytes) (statuses.NoLinkage fault) (λ e. cc) (λ fault e. cc) (is (λ p. done []))
+    only_programs bytes (spelled bytes) (statuses.NoLinkage fault) (λ fault e. cc) is
 text_refused limits live reads bytes (refusals.NotEnabled place fault) is =
-    only_programs bytes (spelled bytes) (statuses.NotEnabled place fault) (λ e. cc) (λ fault e. cc) (is (λ p. done []))
+    only_programs bytes (spelled bytes) (statuses.NotEnabled place fault) (λ fault e. cc) is
 text_refused limits live reads bytes refusals.NoMemory is = tt
 
 -- the same of a text that is lent

@@ -2,7 +2,6 @@
 use Rattle.std.proofs.Common.{◌≡◌, ◌∙◌, inl, inr, ℕ, Bool, true, false, List, Option, Some, None, Result, Ok, Err, sym, ap, subst, length, nat_lt}
 use Rattle.std.specs.Bool.{MatchBool}
 use Rattle.stride_base.specs.declared.limits.TheConstants.{INPUT_LIMIT}
-use Rattle.stride_isa.specs.Faults.{Fault}
 use Rattle.stride_isa.specs.Laws.{OneVerdict}
 use Rattle.stride_isa.specs.Listing.{Listing}
 use Rattle.sc_machine.specs.Machine.{Machine}
@@ -14,10 +13,10 @@ use Rattle.command_words.specs.Laws.{OneReading}
 use Rattle.command_words.specs.Words.{Word}
 use Rattle.log_format.specs.Bundles.{Bundled}
 use Rattle.log_format.specs.Reading.{reading, Refusal as FormatRefusal}
-use Rattle.assembler.specs.Programs.{LineFault, spelled}
+use Rattle.assembler.specs.Programs.{LineFault}
 use Rattle.stride_cli.specs.declared.words.Command.{Command}
 use Rattle.stride_cli.specs.declared.words.Command.TheVariants.{Demo, Check, Follow, Infer, Replay, Show, Sim, Upgrade}
-use Rattle.stride_cli.specs.Answers.{Answer, AnswersBundle, AnswersBy, AnswersInference, AnswersInput, AnswersLinks, AnswersLogs, AnswersOrder, AnswersProgram, AnswersRecorded, AnswersRecording, AnswersRun, AnswersSettings, AnswersSimulated, AnswersSpelled, AnswersVerdict, IsAnswer, done, judged, order_of, program_part, setting_of}
+use Rattle.stride_cli.specs.Answers.{Answer, AnswersBundle, AnswersBy, AnswersCanonical, AnswersFollowed, AnswersInference, AnswersInput, AnswersLinks, AnswersLogs, AnswersOrder, AnswersRecorded, AnswersRecording, AnswersRun, AnswersSettings, AnswersSimulated, IsAnswer, done, order_of, program_part, setting_of}
 use Rattle.stride_cli.specs.Inferring.{Circular, Diverging, Inference, Inferred, Ordered, Unlinked}
 use Rattle.stride_cli.specs.Laws.{OneAnswer}
 use Rattle.stride_cli.specs.Reports.{replay_report, sim_report}
@@ -26,11 +25,7 @@ use Rattle.stride_cli.specs.Words.{given, reads, offline_named}
 use Rattle.stride_cli.proofs.Demonstrations.{one_demo}
 use Rattle.stride_cli.proofs.Inferences.{Laws, one_inference}
 use Rattle.stride_cli.proofs.Readings.{of_line}
-
-one_text : OneVerdict → (text : List ℕ) (s : Result Listing LineFault) (accepted : Listing → Answer) (answer other : Answer) → AnswersSpelled text s accepted answer → AnswersSpelled text s accepted other → answer ≡ other
-one_text one text (Err fault) accepted answer other is same = is ∙ sym same
-one_text one text (Ok p) accepted answer other is same =
-    is.1.1 ∙ ap (λ verdict. judged text verdict (accepted p)) (one p is.0 same.0 is.1.0 same.1.0) ∙ sym same.1.1
+use Rattle.stride_cli.proofs.Texts.{order_once, text_once}
 
 some_same : {X : Type 0} {x y : X} → Some x ≡ Some y → x ≡ y
 some_same e = cc
@@ -56,22 +51,10 @@ module _ (laws : Laws) (one : OneVerdict) (Shows : Listing → Bundled → Infer
       let e = one_inference laws p (follow_all p bundle.fuel bundle.logs) is.0 same.0 is.1.0 same.1.0 in
       by_inference p bundle same.0 answer other (subst P e is.1.1) same.1.1
 
-  -- and by the verdict on its program
-  by_verdict : (bundle : Bundled) (p : Listing) (verdict : Option Fault) (answer other : Answer) → AnswersVerdict bundle.text verdict (AnswersLogs Shows bundle p) answer → AnswersVerdict bundle.text verdict (AnswersLogs Shows bundle p) other → answer ≡ other
-  by_verdict bundle p (Some fault) answer other is same = is ∙ sym same
-  by_verdict bundle p None answer other is same = by_logs bundle p answer other is same
-
-  -- and by what its text spells
-  by_program : (bundle : Bundled) (s : Result Listing LineFault) (answer other : Answer) → AnswersProgram bundle.text s (AnswersLogs Shows bundle) answer → AnswersProgram bundle.text s (AnswersLogs Shows bundle) other → answer ≡ other
-  by_program bundle (Err fault) answer other is same = is ∙ sym same
-  by_program bundle (Ok p) answer other is same =
-      let P : Option Fault → Type 0 = λ verdict. AnswersVerdict bundle.text verdict (AnswersLogs Shows bundle p) answer in
-      by_verdict bundle p same.0 answer other (subst P (one p is.0 same.0 is.1.0 same.1.0) is.1.1) same.1.1
-
   -- and by what bytes read as
   by_reading : (r : Result Bundled FormatRefusal) (answer other : Answer) → AnswersBundle Shows r answer → AnswersBundle Shows r other → answer ≡ other
   by_reading (Err refusal) answer other is same = is ∙ sym same
-  by_reading (Ok bundle) answer other is same = by_program bundle (spelled bundle.text) answer other is same
+  by_reading (Ok bundle) answer other is same = text_once bundle.text (AnswersLogs Shows bundle) one (by_logs bundle) answer other is same
 
 -- one recording has one answer at most
 module _ (laws : Laws) (limits : Limits) (p : Listing) where
@@ -92,26 +75,14 @@ module _ (laws : Laws) (limits : Limits) (p : Listing) where
   by_stranger (Some place) recording answer other is same = is ∙ sym same
 
   by_order : (r : Result (List ℕ) LineFault) (answer other : Answer) → AnswersOrder r (AnswersSimulated limits p) answer → AnswersOrder r (AnswersSimulated limits p) other → answer ≡ other
-  by_order (Err fault) answer other is same = is ∙ sym same
-  by_order (Ok order) answer other is same = by_stranger (stranger (length p.threads) order) (driven (setting_of limits p) order) answer other is same
-
--- one text has one answer at most, where one is answered at most to each valid program
-module _ (laws : Laws) (one : OneVerdict) (text : List ℕ) (Accepted : Listing → Answer → Type 0) (alone : (p : Listing) (answer other : Answer) → Accepted p answer → Accepted p other → answer ≡ other) where
-  verdict_once : (p : Listing) (verdict : Option Fault) (answer other : Answer) → AnswersVerdict text verdict (Accepted p) answer → AnswersVerdict text verdict (Accepted p) other → answer ≡ other
-  verdict_once p (Some fault) answer other is same = is ∙ sym same
-  verdict_once p None answer other is same = alone p answer other is same
-
-  program_once : (s : Result Listing LineFault) (answer other : Answer) → AnswersProgram text s Accepted answer → AnswersProgram text s Accepted other → answer ≡ other
-  program_once (Err fault) answer other is same = is ∙ sym same
-  program_once (Ok p) answer other is same =
-      let P : Option Fault → Type 0 = λ verdict. AnswersVerdict text verdict (Accepted p) answer in
-      verdict_once p same.0 answer other (subst P (one p is.0 same.0 is.1.0 same.1.0) is.1.1) same.1.1
+  by_order = order_once (AnswersSimulated limits p) (λ order. by_stranger (stranger (length p.threads) order) (driven (setting_of limits p) order))
 
 one_input : Laws → OneVerdict → (limits : Limits) (command : Command) (bytes : List ℕ) (answer other : Answer) → AnswersInput limits command bytes answer → AnswersInput limits command bytes other → answer ≡ other
-one_input laws one limits Check bytes answer other is same = one_text one bytes (spelled bytes) _ answer other is same
-one_input laws one limits Follow bytes answer other is same = one_text one (program_part bytes) (spelled (program_part bytes)) _ answer other is same
+one_input laws one limits Check bytes answer other is same = text_once bytes AnswersCanonical one (λ p answer other is same. is ∙ sym same) answer other is same
+one_input laws one limits Follow bytes answer other is same =
+    text_once (program_part bytes) (λ p. AnswersOrder (order_of bytes) (AnswersFollowed limits p)) one (λ p. order_once (AnswersFollowed limits p) (λ order answer other is same. is ∙ sym same) (order_of bytes)) answer other is same
 one_input laws one limits Sim bytes answer other is same =
-    program_once laws one (program_part bytes) (λ p. AnswersOrder (order_of bytes) (AnswersSimulated limits p)) (λ p answer other is same. by_order laws limits p (order_of bytes) answer other is same) (spelled (program_part bytes)) answer other is same
+    text_once (program_part bytes) (λ p. AnswersOrder (order_of bytes) (AnswersSimulated limits p)) one (λ p. by_order laws limits p (order_of bytes)) answer other is same
 one_input laws one limits Show bytes answer other is same = is ∙ sym same
 one_input laws one limits Upgrade bytes answer other is same = is ∙ sym same
 one_input laws one limits Infer bytes answer other is same =

@@ -1,5 +1,5 @@
 -- What `run` reports is the replay of the recording that was made.
-use Rattle.std.proofs.Common.{◌≡◌, ◌∙◌, inl, inr, ℕ, ◌+◌, ◌≤◌, ◌++◌, List, Some, Result, Ok, Err, refl, sym, ap, subst, arith, length}
+use Rattle.std.proofs.Common.{◌≡◌, ◌∙◌, inl, inr, ℕ, ◌+◌, ◌≤◌, ◌++◌, List, Some, Result, Ok, Err, refl, sym, ap, subst, length}
 use Rattle.std.proofs.lemmas.List.{length-map}
 use Rattle.stride_isa.specs.Listing.{Listing}
 use Rattle.stride_isa.specs.Validity.{IsValid}
@@ -10,7 +10,7 @@ use Rattle.interleavings.specs.Following.{Divergence, Followed, follow_all}
 use Rattle.interleavings.specs.Recording.{Recording}
 use Rattle.interleavings.specs.TraceLists.{TraceLists}
 use Rattle.linkage.specs.Sources.{event_count}
-use Rattle.event_order.specs.Laws.{ExtensionsAreWhole, traces_of}
+use Rattle.event_order.specs.Laws.{ExtensionsAreWhole}
 use Rattle.history_laws.specs.Laws.{SchedulesReplayRecordings}
 use Rattle.history_laws.specs.RecordedRuns.{IsScheduleOf}
 use Rattle.replayer.specs.Replays.{Results}
@@ -21,7 +21,7 @@ use Rattle.stride_cli.specs.Headline.{IsRecordedRun, look_limit}
 use Rattle.stride_cli.specs.Inferring.{Inferred, IsInferred, IsInferredBy, IsInferredOf, Ordered}
 use Rattle.stride_cli.specs.LiveAnswers.{AnswersLiveInput}
 use Rattle.stride_cli.specs.LiveLooks.{LiveLooks, RunLooks}
-use Rattle.stride_cli.specs.Looks.{followed_looks, inferring_looks}
+use Rattle.stride_cli.specs.Looks.{followed_looks}
 use Rattle.stride_cli.specs.Playing.{IsPlayed, TellsSummary}
 use Rattle.stride_cli.specs.Reports.{replay_report, schedule_section, summary_report}
 use Rattle.stride_cli.specs.Runs.{run_section}
@@ -41,10 +41,6 @@ logged_steps limits p logs logged = record {
   followed = logged.recorded.followed;
 }
 
--- linking and ordering take no more looks than are enough for so many events
-looks_enough : (traces : TraceLists) → inferring_looks traces ≡ look_limit (event_count traces)
-looks_enough traces = omega arith
-
 -- the least schedule has a member for each event
 whole_schedule : ExtensionsAreWhole → (traces : TraceLists) (inferred : Inferred) → IsInferredOf traces (Ordered inferred) → length inferred.schedule ≡ event_count traces
 whole_schedule law traces inferred is =
@@ -57,11 +53,9 @@ schedule_of limits p recording inferred (Err divergence) follows is = absurd (cc
 schedule_of limits p recording inferred (Ok all) follows is = record { all = all; follows = follows; links = inferred.links; whole = is.0; least = is.1 }
 
 -- so many looks were enough to find the schedule
-pub found_within : ExtensionsAreWhole → (traces : TraceLists) (inferred : Inferred) (before after : ℕ) → IsInferredOf traces (Ordered inferred) → after ≤ before + inferring_looks traces → after ≤ before + look_limit (length inferred.schedule)
+pub found_within : ExtensionsAreWhole → (traces : TraceLists) (inferred : Inferred) (before after : ℕ) → IsInferredOf traces (Ordered inferred) → after ≤ before + look_limit (event_count traces) → after ≤ before + look_limit (length inferred.schedule)
 found_within whole traces inferred before after is looks =
-    let long = whole_schedule whole traces inferred is in
-    let enough = looks_enough traces in
-    rw (long, sym enough) looks
+    rw (whole_schedule whole traces inferred is) looks
 
 module _ (limits : Limits) (p : Listing) (logs : List (List LogEntry)) (traces : TraceLists) (logged : IsLogged limits p logs) (again : IsRunAgain p limits.fuel logs traces) where
   -- the threads follow the logs of the recording
@@ -76,7 +70,7 @@ module _ (limits : Limits) (p : Listing) (logs : List (List LogEntry)) (traces :
       record { all = again.all; follows = follows; links = inferred.links; whole = whole.0; least = whole.1 }
 
   -- the report is that of the recording's replay
-  pub run_found : ExtensionsAreWhole → SchedulesReplayRecordings → (inferred : Inferred) (results : Results) (report : List ℕ) (before after : ℕ) → IsPlayed p limits.fuel traces inferred results → report ≡ schedule_section inferred.schedule ++ run_section results → after ≤ before + inferring_looks traces → IsRecordedRun limits p replay_report report before after
+  pub run_found : ExtensionsAreWhole → SchedulesReplayRecordings → (inferred : Inferred) (results : Results) (report : List ℕ) (before after : ℕ) → IsPlayed p limits.fuel traces inferred results → report ≡ schedule_section inferred.schedule ++ run_section results → after ≤ before + look_limit (event_count traces) → IsRecordedRun limits p replay_report report before after
   run_found whole replays inferred results report before after is put looks =
       let plays = is.run in
       let inferring = is_inferred inferred is.ordered in
@@ -95,13 +89,10 @@ module _ (limits : Limits) (p : Listing) (logs : List (List LogEntry)) (traces :
       }
 
   -- no more looks were taken than are enough for the recording's events
-  pub run_looks : (before after : ℕ) → after ≤ before + inferring_looks traces → RunLooks limits (Ok p) before after
+  pub run_looks : (before after : ℕ) → after ≤ before + look_limit (event_count traces) → RunLooks limits (Ok p) before after
   run_looks before after looks =
       let R : TraceLists → Type 0 = λ traces. after ≤ before + look_limit (event_count traces) in
-      let same = looks_enough traces in
-      let enough : R traces = omega (arith, looks, same) in
-      let within = subst R again.traces_are enough in
-      inr (record { recording = logged.recording; recorded = logged.recorded; all = again.all; follows = follows; within = within })
+      inr (record { recording = logged.recording; recorded = logged.recorded; all = again.all; follows = follows; within = subst R again.traces_are looks })
 
 -- the looks at a program are those at the text that spells it
 pub text_looks : (limits : Limits) (bytes : List ℕ) (p : Listing) (before after : ℕ) → spelled bytes ≡ Ok p → RunLooks limits (Ok p) before after → LiveLooks limits Run bytes before after
@@ -140,11 +131,9 @@ summary_run replays limits p logs report before after valid some logged told =
     }
 
 -- no more looks were taken than are enough for the events of a recording with these logs
-pub logged_looks : (limits : Limits) (p : Listing) (logs : List (List LogEntry)) (before after : ℕ) → IsLogged limits p logs → after ≤ before + followed_looks inferring_looks p (follow_all p limits.fuel logs) → RunLooks limits (Ok p) before after
+pub logged_looks : (limits : Limits) (p : Listing) (logs : List (List LogEntry)) (before after : ℕ) → IsLogged limits p logs → after ≤ before + followed_looks look_limit p (follow_all p limits.fuel logs) → RunLooks limits (Ok p) before after
 logged_looks limits p logs before after logged looks =
     let again = logged.recorded.followed in
-    let R : Result (List Followed) Divergence → Type 0 = λ r. after ≤ before + followed_looks inferring_looks p r in
-    let followed : after ≤ before + inferring_looks (traces_of p again.followed) = subst R (ap (follow_all p limits.fuel) (sym logged.logs_are) ∙ again.follows) looks in
-    let same = looks_enough (traces_of p again.followed) in
-    let within : after ≤ before + look_limit (event_count (traces_of p again.followed)) = omega (arith, followed, same) in
+    let R : Result (List Followed) Divergence → Type 0 = λ r. after ≤ before + followed_looks look_limit p r in
+    let within = subst R (ap (follow_all p limits.fuel) (sym logged.logs_are) ∙ again.follows) looks in
     inr (record { recording = logged.recording; recorded = logged.recorded; all = again.followed; follows = again.follows; within = within })

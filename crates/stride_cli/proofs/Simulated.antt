@@ -1,5 +1,5 @@
 -- The answer of `sim` to an input, by what became of its program, its order and its recording.
-use Rattle.std.proofs.Common.{◌≡◌, ◌∙◌, ◌++◌, ℕ, ◌+◌, ◌≤◌, List, [], Option, None, Result, Ok, Err, refl, sym, ap, subst, length, slice_get, unwrap_or, append_assoc}
+use Rattle.std.proofs.Common.{◌≡◌, ◌∙◌, ◌++◌, ℕ, ◌+◌, ◌≤◌, List, Option, None, Result, Ok, Err, refl, sym, ap, subst, length, slice_get, unwrap_or, append_assoc}
 use Rattle.stride_isa.specs.Listing.{Listing}
 use Rattle.stride_isa.specs.Validity.{IsValid}
 use Rattle.interleavings.specs.declared.driven.DriveError.{DriveError}
@@ -11,17 +11,17 @@ use Rattle.interleavings.specs.Following.{Divergence, Followed, follow_all}
 use Rattle.interleavings.specs.TraceLists.{TraceLists}
 use Rattle.assembler.specs.Programs.{LineFault, spelled}
 use Rattle.replayer.specs.Replays.{Results, results_of}
-use Rattle.stride_cli.specs.declared.refusal.Refusal.{Refusal}
-use Rattle.stride_cli.specs.declared.refusal.Refusal.TheVariants as refusals
 use Rattle.stride_cli.specs.declared.status.MemberFault.TheVariants.{NoThread}
 use Rattle.stride_cli.specs.declared.status.Status.TheVariants as statuses
 use Rattle.stride_cli.specs.declared.words.Command.TheVariants.{Sim}
 use Rattle.stride_cli.specs.Again.{IsRunAgain}
 use Rattle.stride_cli.specs.Answers.{Answer, AnswersInput, AnswersOrder, AnswersProgram, AnswersRecorded, AnswersSimulated, done, order_of, program_part, refused, refused_text, setting_of}
 use Rattle.stride_cli.specs.Gives.{Refuses}
+use Rattle.stride_cli.specs.Headline.{look_limit}
 use Rattle.stride_cli.specs.Inferring.{Inferred, IsInferredBy, IsInferredOf, Ordered}
-use Rattle.stride_cli.specs.Inputs.{Accepts, IsInput}
-use Rattle.stride_cli.specs.Looks.{followed_looks, inferring_looks, printing_looks, simulated_looks}
+use Rattle.stride_cli.specs.Inputs.{IsInput}
+use Rattle.stride_cli.specs.Looks.{followed_looks, printing_looks, simulated_looks}
+use Rattle.linkage.specs.Sources.{event_count}
 use Rattle.event_order.specs.Laws.{ExtensionsAreWhole}
 use Rattle.stride_cli.proofs.RecordedRuns.{found_within}
 use Rattle.stride_cli.specs.Playing.{IsPlayed, TellsLogs, TellsSummary}
@@ -29,32 +29,11 @@ use Rattle.stride_cli.specs.Refusals.{of_drive}
 use Rattle.stride_cli.specs.Reports.{halted_count, links_section, logs_section, schedule_section, summary_lines}
 use Rattle.stride_cli.specs.Runs.{run_section}
 use Rattle.stride_cli.specs.Settings.{Limits}
-use Rattle.stride_cli.proofs.Bundles.{only_programs, unaccepted}
 
 module _ (limits : Limits) (bytes : List ℕ) where
   -- what is answered to an accepted program of an input
   abbrev Accepted : Listing → Answer → Type 0
   Accepted p = AnswersOrder (order_of bytes) (AnswersSimulated limits p)
-
-  -- the refusal of the program
-  program_refused : (refusal : Refusal) → Accepts (program_part bytes) (Err refusal) → Refuses limits Sim bytes refusal
-  program_refused (refusals.Program fault) is =
-      unaccepted (program_part bytes) (spelled (program_part bytes)) Accepted (statuses.Program fault) (λ e. cc) (is (λ p. done []))
-  program_refused (refusals.Bundle kind offset) is =
-      absurd (only_programs (program_part bytes) (spelled (program_part bytes)) (statuses.Bundle kind offset) (λ e. cc) (λ fault e. cc) (is (λ p. done [])))
-  program_refused (refusals.Diverges thread place) is =
-      absurd (only_programs (program_part bytes) (spelled (program_part bytes)) (statuses.Diverges thread place) (λ e. cc) (λ fault e. cc) (is (λ p. done [])))
-  program_refused (refusals.NoLinkage fault) is =
-      absurd (only_programs (program_part bytes) (spelled (program_part bytes)) (statuses.NoLinkage fault) (λ e. cc) (λ fault e. cc) (is (λ p. done [])))
-  program_refused (refusals.NotEnabled place fault) is =
-      absurd (only_programs (program_part bytes) (spelled (program_part bytes)) (statuses.NotEnabled place fault) (λ e. cc) (λ fault e. cc) (is (λ p. done [])))
-  program_refused refusals.NoMemory is = tt
-
-  -- the same of a text that is lent
-  pub lent_refused : (lent : List ℕ) (refusal : Refusal) → lent ≡ program_part bytes → Accepts lent (Err refusal) → Refuses limits Sim bytes refusal
-  lent_refused lent refusal same is =
-      let P : List ℕ → Type 0 = λ text. Accepts text (Err refusal) in
-      program_refused refusal (subst P same is)
 
   -- what is answered to the order of an accepted program
   to_order : (p : Listing) (answer : Answer) → spelled (program_part bytes) ≡ Ok p → IsValid p → Accepted p answer → AnswersInput limits Sim bytes answer
@@ -118,12 +97,12 @@ tells_logs p fuel logs traces inferred results report again played put =
     }
 
 -- the share of logs that were followed
-pub again_looks : (p : Listing) (fuel : ℕ) (logs : List (List LogEntry)) (traces : TraceLists) → IsRunAgain p fuel logs traces → followed_looks printing_looks p (follow_all p fuel logs) ≡ printing_looks traces
-again_looks p fuel logs traces again = ap (followed_looks printing_looks p) again.follows ∙ ap printing_looks (sym again.traces_are)
+pub again_looks : (p : Listing) (fuel : ℕ) (logs : List (List LogEntry)) (traces : TraceLists) → IsRunAgain p fuel logs traces → followed_looks printing_looks p (follow_all p fuel logs) ≡ printing_looks (event_count traces)
+again_looks p fuel logs traces again = ap (followed_looks printing_looks p) again.follows ∙ ap (λ (traces : TraceLists). printing_looks (event_count traces)) (sym again.traces_are)
 
 -- the report tells the summary of logs that were followed, linked, ordered and run
 pub tells_summary : ExtensionsAreWhole → (p : Listing) (fuel : ℕ) (logs : List (List LogEntry)) (traces : TraceLists) (inferred : Inferred) (results : Results) (report : List ℕ) (before after : ℕ) → IsRunAgain p fuel logs traces → IsPlayed p fuel traces inferred results
-    → report ≡ summary_lines (length p.threads) (length inferred.schedule) (halted_count results.ends) (unwrap_or (slice_get results.last_values 0) 0) → after ≤ before + inferring_looks traces → TellsSummary p fuel logs report before after
+    → report ≡ summary_lines (length p.threads) (length inferred.schedule) (halted_count results.ends) (unwrap_or (slice_get results.last_values 0) 0) → after ≤ before + look_limit (event_count traces) → TellsSummary p fuel logs report before after
 tells_summary whole p fuel logs traces inferred results report before after again played put looks =
     let P : TraceLists → Type 0 = λ traces. IsInferredOf traces (Ordered inferred) in
     let Q : Result (List Followed) Divergence → Type 0 = λ r. IsInferredBy p r (Ordered inferred) in

@@ -1,10 +1,7 @@
 -- An order that names threads of a valid program alone has an answer of `sim`, which is the run of its recording.
-use Rattle.std.proofs.Common.{◌≡◌, ℕ, ◌≤◌, List, Option, Some, None, Result, Ok, Err, refl, sym, subst, length}
-use Rattle.stride_isa.specs.Faults.{Fault, IsVerdict}
-use Rattle.stride_isa.specs.Laws.{HasVerdict}
+use Rattle.std.proofs.Common.{◌≡◌, ℕ, ◌≤◌, List, Option, Some, None, Result, refl, sym, subst, length}
 use Rattle.stride_isa.specs.Listing.{Listing}
 use Rattle.stride_isa.specs.Validity.{IsValid}
-use Rattle.assembler.specs.Programs.{LineFault, spelled}
 use Rattle.interleavings.specs.Driving.{driven, stranger, whole_run}
 use Rattle.interleavings.specs.Following.{Divergence, Followed}
 use Rattle.interleavings.specs.Laws.{DrivenIsAHistory, DrivenIsFollowed}
@@ -12,10 +9,9 @@ use Rattle.interleavings.specs.Recording.{Recording, Setting}
 use Rattle.event_order.specs.Laws.{ExtensionsAreRuns, FollowedAreInRange, RunsAsFollowed, traces_of}
 use Rattle.history_laws.specs.HistoryEvents.{AreEventsOf}
 use Rattle.history_laws.specs.Laws.{HistoriesHaveOrders, RecordingsAreHistories}
-use Rattle.stride_cli.specs.Answers.{Answer, AnswersInput, AnswersOrder, AnswersProgram, AnswersRecorded, AnswersRecording, AnswersSimulated, AnswersVerdict, done, order_of, program_part, refused, refused_code, refused_text, setting_of}
+use Rattle.stride_cli.specs.Answers.{Answer, AnswersRecorded, AnswersRecording, AnswersSimulated, done, refused, setting_of}
 use Rattle.stride_cli.specs.declared.status.MemberFault.TheVariants.{NoThread}
 use Rattle.stride_cli.specs.declared.status.Status.TheVariants.{NotEnabled}
-use Rattle.stride_cli.specs.declared.words.Command.TheVariants.{Sim}
 use Rattle.stride_cli.specs.Inferring.{Inferred, IsInferredBy, IsInferredOf, Ordered}
 use Rattle.stride_cli.specs.Reports.{sim_report}
 use Rattle.stride_cli.specs.Settings.{Limits}
@@ -75,26 +71,6 @@ module _ (laws : Laws) (limits : Limits) (some : 1 ≤ limits.fuel) (p : Listing
   by_stranger order None is = recording_answer laws limits some p valid order is
   by_stranger order (Some place) is = (refused (NotEnabled place NoThread), refl)
 
-  by_order : (r : Result (List ℕ) LineFault) → (answer : Answer) × AnswersOrder r (AnswersSimulated limits p) answer
-  by_order (Err fault) = (refused_text fault, refl)
-  by_order (Ok order) = by_stranger order (stranger (length p.threads) order) refl
-
-module _ (laws : Laws) (limits : Limits) (some : 1 ≤ limits.fuel) (verdict : HasVerdict) (bytes : List ℕ) where
-  -- what is answered to an accepted program of an input
-  abbrev Accepted : Listing → Answer → Type 0
-  Accepted p = AnswersOrder (order_of bytes) (AnswersSimulated limits p)
-
-  by_verdict : (text : List ℕ) (p : Listing) (found : Option Fault) → IsVerdict p found → (answer : Answer) × AnswersVerdict text found (Accepted p) answer
-  by_verdict text p (Some fault) judged = (refused_code text fault, refl)
-  by_verdict text p None judged = by_order laws limits some p judged (order_of bytes)
-
-  by_program : (text : List ℕ) (s : Result Listing LineFault) → (answer : Answer) × AnswersProgram text s Accepted answer
-  by_program text (Err fault) = (refused_text fault, refl)
-  by_program text (Ok p) =
-      let judgement = verdict p in
-      let answered = by_verdict text p judgement.0 judgement.1 in
-      (answered.0, (judgement.0, (judgement.1, answered.1)))
-
-  -- an input has an answer of `sim`
-  pub simulation : (answer : Answer) × AnswersInput limits Sim bytes answer
-  simulation = by_program (program_part bytes) (spelled (program_part bytes))
+  -- an order has an answer of `sim`
+  pub simulation : (order : List ℕ) → (answer : Answer) × AnswersSimulated limits p order answer
+  simulation order = by_stranger order (stranger (length p.threads) order) refl

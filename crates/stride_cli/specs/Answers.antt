@@ -88,29 +88,17 @@ followed limits p order = played (replayed p limits.fuel order) (refused_member 
 abbrev pub setting_of : Limits → Listing → Setting
 setting_of limits p = record { program = p; fuel = limits.fuel; patience = limits.patience }
 
--- an answer to an order, where it is spelled, or the refusal of its first fault
-abbrev pub with_order : (List ℕ → Answer) → Result (List ℕ) LineFault → Answer
-with_order answer (Err fault) = refused_text fault
-with_order answer (Ok order) = answer order
+-- what `check` answers to an accepted program
+abbrev pub AnswersCanonical : Listing → Answer → Type 0
+AnswersCanonical p answer = answer ≡ done (canonical p)
+
+-- what `follow` answers to an accepted program with an order
+abbrev pub AnswersFollowed : Limits → Listing → List ℕ → Answer → Type 0
+AnswersFollowed limits p order answer = answer ≡ followed limits p order
 
 -- what the order of an input spells
 abbrev pub order_of : List ℕ → Result (List ℕ) LineFault
 order_of bytes = order_spelled (split bytes).order_line (order_part bytes)
-
--- the answer to the program that a text spells, by the verdict on it: the refusal of its first fault, or what is answered to
--- it where it is valid
-abbrev pub judged : List ℕ → Option Fault → Answer → Answer
-judged text (Some fault) accepted = refused_code text fault
-judged text None accepted = accepted
-
--- the answer to a text that spells this program, or this first fault; the function gives what is answered to a valid program
-abbrev pub AnswersSpelled : List ℕ → Result Listing LineFault → (Listing → Answer) → Answer → Type 0
-AnswersSpelled text (Err fault) accepted answer = answer ≡ refused_text fault
-AnswersSpelled text (Ok p) accepted answer = (verdict : Option Fault) × (IsVerdict p verdict × (answer ≡ judged text verdict (accepted p)))
-
--- the answer to a text, by what it spells
-abbrev pub AnswersText : List ℕ → (Listing → Answer) → Answer → Type 0
-AnswersText text accepted answer = AnswersSpelled text (spelled text) accepted answer
 
 -- what `show` answers to what the bytes read as
 abbrev pub shown : Result Bundled FormatRefusal → Answer
@@ -202,16 +190,20 @@ abbrev pub AnswersProgram : List ℕ → Result Listing LineFault → (Listing �
 AnswersProgram text (Err fault) Accepted answer = answer ≡ refused_text fault
 AnswersProgram text (Ok p) Accepted answer = (verdict : Option Fault) × (IsVerdict p verdict × AnswersVerdict text verdict (Accepted p) answer)
 
+-- the answer to a text, by what it spells
+abbrev pub AnswersText : List ℕ → (Listing → Answer → Type 0) → Answer → Type 0
+AnswersText text Accepted answer = AnswersProgram text (spelled text) Accepted answer
+
 -- the answer to what bytes read as, where this is what is answered to links with a schedule
 abbrev pub AnswersBundle : (Listing → Bundled → Inferred → Answer → Type 0) → Result Bundled FormatRefusal → Answer → Type 0
 AnswersBundle Shows (Err refusal) answer = answer ≡ refused (Bundle refusal.kind refusal.offset)
-AnswersBundle Shows (Ok bundle) answer = AnswersProgram bundle.text (spelled bundle.text) (AnswersLogs Shows bundle) answer
+AnswersBundle Shows (Ok bundle) answer = AnswersText bundle.text (AnswersLogs Shows bundle) answer
 
 -- the answer of a command to an input within the limit
 abbrev pub AnswersInput : Limits → Command → List ℕ → Answer → Type 0
-AnswersInput limits Check bytes answer = AnswersText bytes (λ p. done (canonical p)) answer
-AnswersInput limits Follow bytes answer = AnswersText (program_part bytes) (λ p. with_order (followed limits p) (order_of bytes)) answer
-AnswersInput limits Sim bytes answer = AnswersProgram (program_part bytes) (spelled (program_part bytes)) (λ p. AnswersOrder (order_of bytes) (AnswersSimulated limits p)) answer
+AnswersInput limits Check bytes answer = AnswersText bytes AnswersCanonical answer
+AnswersInput limits Follow bytes answer = AnswersText (program_part bytes) (λ p. AnswersOrder (order_of bytes) (AnswersFollowed limits p)) answer
+AnswersInput limits Sim bytes answer = AnswersText (program_part bytes) (λ p. AnswersOrder (order_of bytes) (AnswersSimulated limits p)) answer
 AnswersInput limits Show bytes answer = answer ≡ shown (reading bytes)
 AnswersInput limits Upgrade bytes answer = answer ≡ upgraded (reading bytes)
 AnswersInput limits Infer bytes answer = AnswersBundle AnswersLinks (reading bytes) answer

@@ -20,7 +20,7 @@ use Rattle.stride_cli.specs.Answers.{setting_of}
 use Rattle.stride_cli.specs.Reports.{replay_report, summary_report}
 use Rattle.stride_cli.specs.Settings.{Limits, demo_limits, limits_of}
 
--- how many looks at events and at their links are enough to find the schedule of so many events
+-- how many looks at events and at their links are enough to link so many events and to find their schedule
 abbrev pub look_limit : ℕ → ℕ
 look_limit events = 128 * (events + 1)
 

@@ -9,11 +9,15 @@ use Rattle.stride_cli.specs.declared.refusal.Refusal.TheVariants as refusals
 use Rattle.stride_cli.specs.Answers.{Answer, AnswersText, order_of, program_part, refused}
 use Rattle.stride_cli.specs.Refusals.{status_of}
 
--- the program is the one that the text spells, and valid; or the refusal is the answer, whatever is answered to a valid program
+-- nothing is answered to a valid program
+abbrev pub Unanswered : Listing → Answer → Type 0
+Unanswered p answer = ⊥
+
+-- the program is the one that the text spells, and valid; or the refusal is the answer to a text that spells no valid program
 abbrev pub Accepts : List ℕ → Result Listing Refusal → Type 0
 Accepts text (Ok p) = (spelled text ≡ Ok p) × IsValid p
 Accepts text (Err refusals.NoMemory) = Unit {0}
-Accepts text (Err refusal) = (accepted : Listing → Answer) → AnswersText text accepted (refused (status_of refusal))
+Accepts text (Err refusal) = AnswersText text Unanswered (refused (status_of refusal))
 
 -- the input is this accepted program with this order
 pub record IsInput (bytes : List ℕ) (p : Listing) (order : List ℕ) : Type 0 where

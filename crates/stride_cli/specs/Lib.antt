@@ -13,6 +13,7 @@ pub mod LiveLaws
 pub mod LiveLooks
 pub mod Looks
 pub mod Playing
+pub mod Refusable
 pub mod Refusals
 pub mod Reports
 pub mod Runs

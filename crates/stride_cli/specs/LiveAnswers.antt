@@ -18,7 +18,7 @@ use Rattle.history_laws.specs.RecordedRuns.{IsScheduleOf}
 use Rattle.stride_cli.specs.declared.status.Status.TheVariants.{TooLong}
 use Rattle.stride_cli.specs.declared.words.Live.{Live}
 use Rattle.stride_cli.specs.declared.words.Live.TheVariants.{Bundle, Demo, Run}
-use Rattle.stride_cli.specs.Answers.{Answer, AnswersProgram, AnswersSettings, AnswersWords, done, refused, setting_of}
+use Rattle.stride_cli.specs.Answers.{Answer, AnswersSettings, AnswersText, AnswersWords, done, refused, setting_of}
 use Rattle.stride_cli.specs.Reports.{replay_report, summary_report}
 use Rattle.stride_cli.specs.Settings.{Limits, limits_of, demo_limits}
 use Rattle.stride_cli.specs.Words.{live_named, given, live_reads}
@@ -56,8 +56,8 @@ AnswersLive limits (Demo number) p answer = AnswersLiveRun demo_limits p (summar
 
 -- the answer of a live command to an input within the limit; a demonstration has its own program
 abbrev pub AnswersLiveInput : Limits → Live → List ℕ → Answer → Type 0
-AnswersLiveInput limits Run bytes answer = AnswersProgram bytes (spelled bytes) (AnswersLive limits Run) answer
-AnswersLiveInput limits Bundle bytes answer = AnswersProgram bytes (spelled bytes) (AnswersLive limits Bundle) answer
+AnswersLiveInput limits Run bytes answer = AnswersText bytes (AnswersLive limits Run) answer
+AnswersLiveInput limits Bundle bytes answer = AnswersText bytes (AnswersLive limits Bundle) answer
 AnswersLiveInput limits (Demo number) bytes answer = AnswersLive limits (Demo number) (demo_program number) answer
 
 -- the answer of a live command to an input of any length, of which it may read nothing

@@ -3,17 +3,15 @@ use Rattle.std.specs.Prelude.{ℕ, ◌+◌, ◌*◌, List, Option, Some, None, R
 use Rattle.stride_isa.specs.Limits.{fuel_limit, thread_limit}
 use Rattle.stride_isa.specs.Listing.{Listing}
 use Rattle.interleavings.specs.Following.{Divergence, Followed, follow_all}
-use Rattle.interleavings.specs.TraceLists.{TraceLists}
 use Rattle.demo.specs.Demo.{demo_program}
 use Rattle.log_format.specs.Bundles.{Bundled}
 use Rattle.log_format.specs.Reading.{reading, Refusal as FormatRefusal}
 use Rattle.assembler.specs.Programs.{LineFault, spelled}
-use Rattle.linkage.specs.Links.{most_looks as most_looks_of_linking}
 use Rattle.linkage.specs.Sources.{event_count}
-use Rattle.event_order.specs.Answers.{most_looks as most_looks_of_order}
 use Rattle.event_order.specs.Laws.{traces_of}
 use Rattle.interleavings.specs.Driving.{driven}
 use Rattle.stride_cli.specs.Answers.{demo_recording, order_of, program_part, setting_of}
+use Rattle.stride_cli.specs.Headline.{look_limit}
 use Rattle.stride_cli.specs.Settings.{demo_limits, Limits}
 use Rattle.stride_cli.specs.declared.refusal.Refusal.{Refusal}
 use Rattle.stride_cli.specs.declared.refusal.Refusal.TheVariants as refusals
@@ -22,26 +20,22 @@ use Rattle.stride_cli.specs.declared.status.Status.TheVariants as statuses
 use Rattle.stride_cli.specs.declared.words.Command.{Command}
 use Rattle.stride_cli.specs.declared.words.Command.TheVariants.{Check, Demo, Follow, Sim, Show, Upgrade, Infer, Replay}
 
--- linking and ordering these events
-abbrev pub inferring_looks : TraceLists → ℕ
-inferring_looks traces = most_looks_of_linking traces + most_looks_of_order traces
+-- linking and ordering so many events, and a look at the link of each, which is printed
+abbrev pub printing_looks : ℕ → ℕ
+printing_looks events = look_limit events + events
 
--- the same, and a look at the link of each event, which is printed
-abbrev pub printing_looks : TraceLists → ℕ
-printing_looks traces = inferring_looks traces + event_count traces
-
--- the share of threads that were followed; none where one diverges
-abbrev pub followed_looks : (TraceLists → ℕ) → Listing → Result (List Followed) Divergence → ℕ
-followed_looks share p (Ok all) = share (traces_of p all)
+-- the share of threads that were followed, by the number of their events; none where one diverges
+abbrev pub followed_looks : (ℕ → ℕ) → Listing → Result (List Followed) Divergence → ℕ
+followed_looks share p (Ok all) = share (event_count (traces_of p all))
 followed_looks share p (Err divergence) = 0
 
 -- the share of the program of a bundle; none where its text spells none
-abbrev pub spelled_looks : (TraceLists → ℕ) → Bundled → Result Listing LineFault → ℕ
+abbrev pub spelled_looks : (ℕ → ℕ) → Bundled → Result Listing LineFault → ℕ
 spelled_looks share bundle (Ok p) = followed_looks share p (follow_all p bundle.fuel bundle.logs)
 spelled_looks share bundle (Err fault) = 0
 
 -- the share of a bundle that was read; none where the bytes are no bundle
-abbrev pub bundle_looks : (TraceLists → ℕ) → Result Bundled FormatRefusal → ℕ
+abbrev pub bundle_looks : (ℕ → ℕ) → Result Bundled FormatRefusal → ℕ
 bundle_looks share (Ok bundle) = spelled_looks share bundle (spelled bundle.text)
 bundle_looks share (Err refusal) = 0
 
@@ -53,12 +47,12 @@ simulated_looks limits (Err fault) spelling = 0
 
 -- the share of a demonstration: that of the logs of its recording
 abbrev pub demo_looks : ℕ → ℕ
-demo_looks number = followed_looks inferring_looks (demo_program number) (follow_all (demo_program number) demo_limits.fuel (demo_recording number).logs)
+demo_looks number = followed_looks look_limit (demo_program number) (follow_all (demo_program number) demo_limits.fuel (demo_recording number).logs)
 
 -- the share of a command
 abbrev pub command_looks : Limits → Command → List ℕ → ℕ
 command_looks limits Infer bytes = bundle_looks printing_looks (reading bytes)
-command_looks limits Replay bytes = bundle_looks inferring_looks (reading bytes)
+command_looks limits Replay bytes = bundle_looks look_limit (reading bytes)
 command_looks limits Check bytes = 0
 command_looks limits Follow bytes = 0
 command_looks limits Sim bytes = simulated_looks limits (order_of bytes) (spelled (program_part bytes))
@@ -73,7 +67,7 @@ most_looks limits (Some command) bytes = command_looks limits command bytes
 
 -- the greatest share of any command on any input: that of as many events as all threads of a program have fuel
 abbrev pub greatest_looks : ℕ
-greatest_looks = 129 * (thread_limit * fuel_limit) + 128
+greatest_looks = printing_looks (thread_limit * fuel_limit)
 
 -- a fact where the command links nothing
 abbrev pub OnUnlinking : Option Command → Type 0 → Type 0

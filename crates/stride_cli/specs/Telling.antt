@@ -3,7 +3,7 @@ use Rattle.std.specs.Prelude.{ℕ, List, Option, Some, None}
 use Rattle.stride_base.specs.Devices.{Adds, AddsFront}
 use Rattle.command_words.specs.Words.{Word}
 use Rattle.stride_cli.specs.declared.status.Status.{Status}
-use Rattle.stride_cli.specs.declared.status.Status.TheVariants.{Diverges, Done, NoLinkage, NotEnabled, ReadFault, WriteFault, NoMemory}
+use Rattle.stride_cli.specs.declared.status.Status.TheVariants.{Done, NoLinkage, ReadFault, WriteFault, NoMemory}
 use Rattle.stride_cli.specs.declared.words.Command.{Command}
 use Rattle.stride_cli.specs.declared.words.Command.TheVariants.{Check, Demo, Follow, Infer, Replay, Show, Sim, Upgrade}
 use Rattle.stride_cli.specs.Answers.{Answer, IsAnswer, done, refused}
@@ -54,37 +54,14 @@ OnRefusal Done fact = Unit {0}
 OnRefusal WriteFault fact = Unit {0}
 OnRefusal given fact = fact
 
--- a fact where the command reads no order
-abbrev pub OnOrderless : Option Command → Type 0 → Type 0
-OnOrderless None fact = fact
-OnOrderless (Some Check) fact = fact
-OnOrderless (Some Show) fact = fact
-OnOrderless (Some Upgrade) fact = fact
-OnOrderless (Some Infer) fact = fact
-OnOrderless (Some Replay) fact = fact
-OnOrderless (Some (Demo number)) fact = fact
-OnOrderless (Some Follow) fact = Unit {0}
-OnOrderless (Some Sim) fact = Unit {0}
-
--- no member of an order is refused
-abbrev pub RefusesNoMember : Status → Type 0
-RefusesNoMember (NotEnabled place fault) = ⊥
-RefusesNoMember given = Unit {0}
-
--- a fact where the command reads no logs
-abbrev pub OnLogless : Option Command → Type 0 → Type 0
-OnLogless None fact = fact
-OnLogless (Some Check) fact = fact
-OnLogless (Some Follow) fact = fact
-OnLogless (Some Sim) fact = fact
-OnLogless (Some Show) fact = fact
-OnLogless (Some Upgrade) fact = fact
-OnLogless (Some (Demo number)) fact = fact
-OnLogless (Some Infer) fact = Unit {0}
-OnLogless (Some Replay) fact = Unit {0}
-
--- no thread diverges from its log, and no events of logs are refused
-abbrev pub RefusesNoLogs : Status → Type 0
-RefusesNoLogs (Diverges thread place) = ⊥
-RefusesNoLogs (NoLinkage fault) = ⊥
-RefusesNoLogs given = Unit {0}
+-- a fact about the number of a demonstration
+abbrev pub OnDemo : Option Command → (ℕ → Type 0) → Type 0
+OnDemo (Some (Demo number)) Holds = Holds number
+OnDemo (Some Check) Holds = Unit {0}
+OnDemo (Some Follow) Holds = Unit {0}
+OnDemo (Some Sim) Holds = Unit {0}
+OnDemo (Some Show) Holds = Unit {0}
+OnDemo (Some Upgrade) Holds = Unit {0}
+OnDemo (Some Infer) Holds = Unit {0}
+OnDemo (Some Replay) Holds = Unit {0}
+OnDemo None Holds = Unit {0}

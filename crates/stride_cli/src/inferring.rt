@@ -6,7 +6,7 @@ ghost use Rattle.stride_cli.specs.Answers.{AnswersBundle, AnswersLinks, AnswersR
 ghost use Rattle.stride_cli.specs.Gives.{RefusesBy};
 ghost use Rattle.log_format.specs.Reading.{reading};
 ghost use Rattle.stride_cli.specs.Inferring.{IsInferredOf, SchedulesEvents, Ordered};
-ghost use Rattle.stride_cli.specs.Looks.{inferring_looks};
+ghost use Rattle.stride_cli.specs.Headline.{look_limit};
 
 use crate::input::accept;
 use crate::refusal::Refusal;
@@ -69,7 +69,7 @@ pub fn order_events<L: Ledger>(
 ) -> Result<Order, Refusal>
     ensures ordered { IfOk result (λ order. IsInferredOf traces.now (Ordered (record { links = order.links; schedule = order.schedule.items }))) }
     ensures refused { IfErr result (RefusesEvents traces.now) }
-    ensures looks { steps.new ≤ steps.old + inferring_looks traces.now }
+    ensures looks { steps.new ≤ steps.old + look_limit (event_count traces.now) }
 {
     let links = link(alloc, traces, steps)?;
     let schedule = arrange(alloc, traces, &links, steps)?;
@@ -84,7 +84,7 @@ pub fn schedule_events<L: Ledger>(
 ) -> Result<List<u8>, Refusal>
     ensures scheduled { IfOk result (λ schedule. SchedulesEvents traces schedule.items) }
     ensures refused { IfErr result (RefusesEvents traces) }
-    ensures looks { steps.new ≤ steps.old + inferring_looks traces }
+    ensures looks { steps.new ≤ steps.old + look_limit (event_count traces) }
 {
     let links = link(alloc, &traces, steps)?;
     let schedule = arrange_owned(alloc, traces, links, steps)?;

@@ -1,13 +1,15 @@
 //! The top call for all commands that start no thread.
 ghost use Rattle.std.specs.Prelude.{◌≡◌, ◌+◌, ◌≤◌, ◌↔◌, [], None, Some, IfSome, map, length};
 ghost use Rattle.std.specs.Bool.{MatchBool};
-ghost use Rattle.stride_base.specs.Devices.{Rose};
+ghost use Rattle.command_words.specs.declared.settings.Command.{Command as Named};
 ghost use Rattle.command_words.specs.Words.{IsNoLine, OfLine};
-ghost use Rattle.stride_cli.specs.Answers.{AnswersBy, AnswersSettings};
+ghost use Rattle.stride_base.specs.Devices.{Rose};
+ghost use Rattle.stride_cli.specs.Answers.{AnswersBy, AnswersDemo, AnswersSettings};
 ghost use Rattle.stride_cli.specs.LimitsSeen.{limits_seen};
-ghost use Rattle.stride_cli.specs.Looks.{BeforeLinking, OnUnlinking, greatest_looks, most_looks};
+ghost use Rattle.stride_cli.specs.Looks.{BeforeLinking, OnUnlinking, demo_looks, greatest_looks, most_looks};
+ghost use Rattle.stride_cli.specs.Refusable.{CanEnd};
 ghost use Rattle.stride_cli.specs.Settings.{AreInRange, limits_of};
-ghost use Rattle.stride_cli.specs.Telling.{OnDone, OnLogless, OnMemory, OnOrderless, OnReadFault, OnRefusal, OnWriteFault, RefusesNoLogs, RefusesNoMember, Tells, TellsBy};
+ghost use Rattle.stride_cli.specs.Telling.{OnDemo, OnDone, OnMemory, OnReadFault, OnRefusal, OnWriteFault, Tells, TellsBy};
 ghost use Rattle.stride_cli.specs.Words.{named_reads, offline_named, reads};
 
 use crate::commands::report_of;
@@ -34,8 +36,9 @@ fn offline_command<S: Source, K: Sink, L: Ledger>(
 
     ensures untouched { OnRefusal result (sink.new ≡ sink.old) }
     ensures end { MatchBool (reads command) (OnDone result (IfSome (S.left source.new) (λ rest. rest ≡ []))) (source.new ≡ source.old) }
-    ensures members { OnOrderless (Some command) (RefusesNoMember result) }
-    ensures logs { OnLogless (Some command) (RefusesNoLogs result) }
+    ensures refusals { (name : Named) → offline_named name ≡ Some command → CanEnd name result }
+    ensures demo_answer { OnDemo (Some command) (λ number. TellsBy (AnswersDemo number) (K.held sink.old) (K.held sink.new) result) }
+    ensures demo_within { OnDemo (Some command) (λ number. steps.new ≤ steps.old + demo_looks number) }
 
     ensures read_fault { OnReadFault result (Rose (S.faults source.old) (S.faults source.new)) }
     ensures write_fault { OnWriteFault result (Rose (K.faults sink.old) (K.faults sink.new)) }
@@ -75,8 +78,9 @@ pub fn offline_by<S: Source, K: Sink, L: Ledger>(
 
     ensures untouched { OnRefusal result (sink.new ≡ sink.old) }
     ensures end { MatchBool (named_reads None (offline_named settings.command)) (OnDone result (IfSome (S.left source.new) (λ rest. rest ≡ []))) (source.new ≡ source.old) }
-    ensures members { OnOrderless (offline_named settings.command) (RefusesNoMember result) }
-    ensures logs { OnLogless (offline_named settings.command) (RefusesNoLogs result) }
+    ensures refusals { CanEnd settings.command result }
+    ensures demo_answer { OnDemo (offline_named settings.command) (λ number. TellsBy (AnswersDemo number) (K.held sink.old) (K.held sink.new) result) }
+    ensures demo_within { OnDemo (offline_named settings.command) (λ number. steps.new ≤ steps.old + demo_looks number) }
 
     ensures read_fault { OnReadFault result (Rose (S.faults source.old) (S.faults source.new)) }
     ensures write_fault { OnWriteFault result (Rose (K.faults sink.old) (K.faults sink.new)) }
@@ -119,9 +123,12 @@ pub fn offline<S: Source, K: Sink, L: Ledger>(
     // A command that reads an input reads it to its end.
     ensures end { OfLine (map (λ word. word.now) words.entry.now) (λ settings. MatchBool (named_reads None (offline_named settings.command)) (OnDone result (IfSome (S.left source.new) (λ rest. rest ≡ []))) (source.new ≡ source.old)) }
 
-    // Only `follow` and `sim` refuse a member of an order, and only `infer` and `replay` refuse logs.
-    ensures members { OfLine (map (λ word. word.now) words.entry.now) (λ settings. OnOrderless (offline_named settings.command) (RefusesNoMember result)) }
-    ensures logs { OfLine (map (λ word. word.now) words.entry.now) (λ settings. OnLogless (offline_named settings.command) (RefusesNoLogs result)) }
+    // A command gives only refusals of what it reads, whatever the source tells.
+    ensures refusals { OfLine (map (λ word. word.now) words.entry.now) (λ settings. CanEnd settings.command result) }
+
+    // A demonstration reads no input, so its answer and its looks are told whatever the source tells.
+    ensures demo_answer { OfLine (map (λ word. word.now) words.entry.now) (λ settings. OnDemo (offline_named settings.command) (λ number. TellsBy (AnswersDemo number) (K.held sink.old) (K.held sink.new) result)) }
+    ensures demo_within { OfLine (map (λ word. word.now) words.entry.now) (λ settings. OnDemo (offline_named settings.command) (λ number. steps.new ≤ steps.old + demo_looks number)) }
 
     // A fault is answered only where the device's count rose in this call.
     ensures read_fault { OnReadFault result (Rose (S.faults source.old) (S.faults source.new)) }

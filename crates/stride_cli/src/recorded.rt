@@ -6,7 +6,7 @@ ghost use Rattle.replayer.specs.Replays.{seen};
 ghost use Rattle.stride_cli.specs.Again.{AreRecorded, HasRecorded, IsRecorded, WereRecorded};
 ghost use Rattle.stride_cli.specs.Inferring.{IsInferredOf, Ordered};
 ghost use Rattle.stride_cli.specs.LimitsSeen.{limits_seen};
-ghost use Rattle.stride_cli.specs.Looks.{inferring_looks};
+ghost use Rattle.stride_cli.specs.Headline.{look_limit};
 ghost use Rattle.stride_cli.specs.Playing.{IsPlayed};
 
 use crate::inferring::{Order, order_events};
@@ -54,7 +54,7 @@ pub fn order_recorded<L: Ledger>(
 ) -> Result<Order, NoMemory>
     requires { HasRecorded program.now traces.now }
     ensures ordered { IfOk result (λ order. IsInferredOf traces.now (Ordered (record { links = order.links; schedule = order.schedule.items }))) }
-    ensures looks { steps.new ≤ steps.old + inferring_looks traces.now }
+    ensures looks { steps.new ≤ steps.old + look_limit (event_count traces.now) }
 {
     event_order::followed_are_in_range();
     history_laws::recordings_are_histories();
@@ -89,7 +89,7 @@ pub fn play_recorded<L: Ledger>(
     requires { WereRecorded (limits_seen limits) program.now traces.now }
     ensures played { IfOk result (λ replayed. IsPlayed program.now limits.fuel traces.now (record { links = replayed.order.links; schedule = replayed.order.schedule.items }) (seen replayed.played)) }
     ensures threads { IfOk result (λ replayed. length replayed.played.ends.items ≤ THREAD_LIMIT) }
-    ensures looks { steps.new ≤ steps.old + inferring_looks traces.now }
+    ensures looks { steps.new ≤ steps.old + look_limit (event_count traces.now) }
 {
     program.facts();
     let order = order_recorded(alloc, program, traces, steps)?;

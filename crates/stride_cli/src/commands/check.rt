@@ -1,7 +1,6 @@
 //! `check`: a program in its canonical text.
 ghost use Rattle.std.specs.Prelude.{◌≤◌, length};
-ghost use Rattle.assembler.specs.Canonical.{canonical};
-ghost use Rattle.stride_cli.specs.Answers.{AnswersText, done};
+ghost use Rattle.stride_cli.specs.Answers.{AnswersCanonical, AnswersText};
 ghost use Rattle.stride_cli.specs.Gives.{GivesBy};
 
 use crate::input::accept;
@@ -14,7 +13,7 @@ use stride_base::limits::INPUT_LIMIT;
 /// The canonical text of the program that the bytes spell.
 pub fn check_text(alloc: Global, bytes: &[u8]) -> Result<List<u8>, Refusal>
     requires { length bytes.now ≤ INPUT_LIMIT }
-    ensures { GivesBy result (AnswersText bytes.now (λ program. done (canonical program))) }
+    ensures { GivesBy result (AnswersText bytes.now AnswersCanonical) }
 {
     let program = accept(alloc, bytes)?;
     Ok(print_program(alloc, &program)?)

@@ -8,10 +8,10 @@ ghost use Rattle.interleavings.specs.Following.{follow_all};
 ghost use Rattle.log_format.specs.Bundles.{lists_of};
 ghost use Rattle.stride_cli.specs.Again.{AreRecorded};
 ghost use Rattle.stride_cli.specs.Answers.{AnswersDemo, done, setting_of};
-ghost use Rattle.stride_cli.specs.Headline.{IsRecordedRun};
+ghost use Rattle.stride_cli.specs.Headline.{IsRecordedRun, look_limit};
 ghost use Rattle.stride_cli.specs.LimitsSeen.{limits_seen};
 ghost use Rattle.stride_cli.specs.LiveLooks.{RunLooks};
-ghost use Rattle.stride_cli.specs.Looks.{demo_looks, followed_looks, greatest_looks, inferring_looks};
+ghost use Rattle.stride_cli.specs.Looks.{demo_looks, followed_looks, greatest_looks};
 ghost use Rattle.stride_cli.specs.Playing.{TellsSummary};
 ghost use Rattle.stride_cli.specs.Reports.{summary_report};
 ghost use Rattle.stride_cli.specs.Settings.{demo_limits};
@@ -49,7 +49,7 @@ fn summarize<L: Ledger>(
 ) -> Result<List<u8>, NoMemory>
     requires recorded { AreRecorded (limits_seen limits) program.now (lists_of logs.now.items) }
     ensures told { IfOk result (λ report. TellsSummary program.now limits.fuel (lists_of logs.now.items) report.items steps.old steps.new) }
-    ensures looks { steps.new ≤ steps.old + followed_looks inferring_looks program.now (follow_all program.now limits.fuel (lists_of logs.now.items)) }
+    ensures looks { steps.new ≤ steps.old + followed_looks look_limit program.now (follow_all program.now limits.fuel (lists_of logs.now.items)) }
     ensures ceiling { steps.new ≤ steps.old + greatest_looks }
 {
     event_order::extensions_are_whole();

@@ -9,7 +9,7 @@ ghost use Rattle.stride_cli.specs.declared.words.Command.TheVariants.{Follow};
 use crate::input::read_input;
 use crate::limits::Limits;
 use crate::refusal::Refusal;
-use crate::reports::put_ends;
+use crate::reports::put_run;
 use crate::status::MemberFault;
 use replayer::{ReplayError, replay};
 use std::alloc::Global;
@@ -56,8 +56,6 @@ pub fn follow_schedule(alloc: Global, limits: Limits, bytes: &[u8]) -> Result<Li
         Err(error) => return Err(refused_order(&input.program, order, error)),
     };
     let mut report = List::new(alloc);
-    report.push_all(b"transcript\n")?;
-    report.push_all(played.transcript.as_slice())?;
-    put_ends(&mut report, played.ends.as_slice())?;
+    put_run(&mut report, &played)?;
     Ok(report)
 }

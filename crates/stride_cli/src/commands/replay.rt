@@ -1,42 +1,19 @@
 //! `replay`: the run of a bundle's events in their least order.
-ghost use Rattle.std.specs.Prelude.{◌≡◌, ◌+◌, ◌≤◌, ◌++◌, length, IfErr, OnOk};
-ghost use Rattle.replayer.specs.Replays.{seen};
+ghost use Rattle.std.specs.Prelude.{◌≡◌, ◌+◌, ◌≤◌, length, IfErr};
 ghost use Rattle.log_format.specs.Reading.{reading};
 ghost use Rattle.stride_cli.specs.Answers.{AnswersBundle, AnswersRun};
 ghost use Rattle.stride_cli.specs.Gives.{GivesBy};
-ghost use Rattle.stride_cli.specs.Looks.{OnEarly, bundle_looks, greatest_looks, inferring_looks};
-ghost use Rattle.stride_cli.specs.Reports.{schedule_section};
-ghost use Rattle.stride_cli.specs.Runs.{run_section};
+ghost use Rattle.stride_cli.specs.Headline.{look_limit};
+ghost use Rattle.stride_cli.specs.Looks.{OnEarly, bundle_looks, greatest_looks};
 
 use crate::inferring::{rerun_bundle, schedule_events};
 use crate::refusal::Refusal;
 use crate::replaying::replay_events;
-use crate::reports::{put_ends, put_schedule};
-use replayer::Replay;
+use crate::reports::put_replay;
 use std::alloc::Global;
 use std::sync::ledger::Ledger;
 use stride_base::limits::INPUT_LIMIT;
-use stride_base::{List, NoMemory, Steps};
-use stride_isa::limits::THREAD_LIMIT;
-
-/// Appends the sections of a run's transcript and ends.
-fn put_run(report: &mut List<u8>, played: &Replay) -> Result<(), NoMemory>
-    requires { length played.now.ends.items ≤ THREAD_LIMIT }
-    ensures { OnOk result (report.new.items ≡ report.old.items ++ run_section (seen played.now)) }
-{
-    report.push_all(b"transcript\n")?;
-    report.push_all(played.transcript.as_slice())?;
-    put_ends(report, played.ends.as_slice())
-}
-
-/// Appends the sections of a schedule and of its run.
-pub fn put_replay(report: &mut List<u8>, schedule: &[u8], played: &Replay) -> Result<(), NoMemory>
-    requires { length played.now.ends.items ≤ THREAD_LIMIT }
-    ensures { OnOk result (report.new.items ≡ report.old.items ++ (schedule_section schedule.now ++ run_section (seen played.now))) }
-{
-    put_schedule(report, schedule)?;
-    put_run(report, played)
-}
+use stride_base::{List, Steps};
 
 /// The schedule of the bundle that the bytes spell, and what its run prints and how its threads end.
 pub fn replay_bundle<L: Ledger>(
@@ -47,7 +24,7 @@ pub fn replay_bundle<L: Ledger>(
     requires { length bytes.items ≤ INPUT_LIMIT }
     ensures answer { GivesBy result (AnswersBundle AnswersRun (reading bytes.items)) }
     ensures early { IfErr result (λ refusal. OnEarly refusal (steps.new ≡ steps.old)) }
-    ensures looks { steps.new ≤ steps.old + bundle_looks inferring_looks (reading bytes.items) }
+    ensures looks { steps.new ≤ steps.old + bundle_looks look_limit (reading bytes.items) }
     ensures ceiling { steps.new ≤ steps.old + greatest_looks }
 {
     let rerun = rerun_bundle(alloc, bytes)?;

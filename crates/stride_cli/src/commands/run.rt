@@ -10,12 +10,12 @@ ghost use Rattle.stride_cli.specs.Looks.{OnEarly, greatest_looks};
 ghost use Rattle.stride_cli.specs.Reports.{replay_report};
 ghost use Rattle.stride_cli.specs.declared.words.Live.TheVariants.{Run};
 
-use crate::commands::replay::put_replay;
 use crate::input::accept;
 use crate::limits::Limits;
 use crate::recorded::{play_recorded, rerun_recorded};
 use crate::recording::record;
 use crate::refusal::Refusal;
+use crate::reports::put_replay;
 use interleavings::LogEntry;
 use recorder::Gate;
 use std::alloc::Global;

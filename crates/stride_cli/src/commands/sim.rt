@@ -9,12 +9,11 @@ ghost use Rattle.stride_cli.specs.Looks.{OnEarly, command_looks, followed_looks,
 ghost use Rattle.stride_cli.specs.Playing.{TellsLogs};
 ghost use Rattle.stride_cli.specs.declared.words.Command.TheVariants.{Sim};
 
-use crate::commands::replay::put_replay;
 use crate::input::read_input;
 use crate::limits::Limits;
 use crate::recorded::{play_recorded, rerun_recorded};
 use crate::refusal::Refusal;
-use crate::reports::{put_links, put_logs};
+use crate::reports::{put_links, put_logs, put_replay};
 use interleavings::{LogEntry, drive};
 use std::alloc::Global;
 use std::sync::ledger::Ledger;

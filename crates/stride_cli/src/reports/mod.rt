@@ -5,6 +5,7 @@ mod ends;
 mod line;
 mod links;
 mod logs;
+mod played;
 mod schedule;
 mod summary;
 
@@ -12,5 +13,6 @@ pub use counts::{put_counts, put_text};
 pub use ends::put_ends;
 pub use links::put_links;
 pub use logs::put_logs;
+pub use played::{put_replay, put_run};
 pub use schedule::put_schedule;
 pub use summary::{Summary, halted, put_summary};

@@ -4,6 +4,7 @@ use Rattle.stride_cli.specs.Headline.{World}
 use Rattle.stride_cli.specs.LimitsSeen.{limits_seen}
 use Rattle.stride_cli.specs.Words.{given}
 use Rattle.stride_cli.proofs.LiveKept.{unread_kept}
+use Rattle.stride_cli.proofs.Refusable.{live_refused_fits, live_unread_fits}
 use Rattle.stride_cli.proofs.stride_call.live_command.Goals as goal
 
 pub returns-in-Err-clause-promise : goal.returns-in-Err-clause-promise
@@ -13,3 +14,9 @@ returns-in-Err-clause-promise g c =
     let Long : Bool → Type 0 = λ reads. IfSome (g.S.Source.left c.args.source.now) (λ bytes. INPUT_LIMIT < length (given reads bytes)) in
     unread_kept (limits_seen c.args.limits) (g.S.Source.left c.args.source.now) before after c.args.command c.in-Err.error c.unread.result c.unread.ensures (sym c.reads_input.ensures ∙ c.in-Err.ensures.fails)
     (λ is. c.in-Err.ensures.read_fault (ap Err is)) (λ is. subst Long c.reads_input.ensures (c.in-Err.ensures.too_long (ap Err is)))
+
+pub returns-in-Err-clause-refusals : goal.returns-in-Err-clause-refusals
+returns-in-Err-clause-refusals g c = λ name is. live_unread_fits name c.args.command c.in-Err.error c.unread.result is (sym c.reads_input.ensures ∙ c.in-Err.ensures.fails) c.unread.ensures
+
+pub returns-in-Err-live_report_of-clause-refusals : goal.returns-in-Err-live_report_of-clause-refusals
+returns-in-Err-live_report_of-clause-refusals g c = λ name is. live_refused_fits (limits_seen c.args.limits) c.in-Ok.bytes.items name c.args.command c.in-Err-live_report_of.refusal c.into_status.result is c.into_status.ensures c.in-Err-live_report_of.ensures.answer

@@ -1,11 +1,14 @@
-use Rattle.std.proofs.Common.{◌≡◌, [], IfSome}
+use Rattle.std.proofs.Common.{◌≡◌, ◌≤◌, ◌+◌, [], IfSome}
 use Rattle.std.specs.Bool.{MatchBool}
 use Rattle.command_words.specs.Words.{IsNoLine}
+use Rattle.stride_cli.specs.Answers.{AnswersDemo}
 use Rattle.stride_cli.specs.Headline.{IsDemoKeptBy, IsKeptBy, World}
 use Rattle.stride_cli.specs.LiveAnswers.{AnswersLiveSettings}
 use Rattle.stride_cli.specs.LiveLooks.{NamedLooks, OnUncounted}
+use Rattle.stride_cli.specs.Looks.{demo_looks}
+use Rattle.stride_cli.specs.Refusable.{CanEnd}
 use Rattle.stride_cli.specs.Settings.{limits_of}
-use Rattle.stride_cli.specs.Telling.{OnDone, OnLogless, OnOrderless, RefusesNoLogs, RefusesNoMember}
+use Rattle.stride_cli.specs.Telling.{OnDemo, OnDone, TellsBy}
 use Rattle.stride_cli.specs.Words.{live_named, named_reads, offline_named}
 use Rattle.stride_cli.proofs.Readings.{in_range, line_done, no_line_answer, no_line_usage, of_reading}
 use Rattle.stride_cli.proofs.stride_call.stride.Goals as goal
@@ -32,13 +35,16 @@ pub returns-in-Ok-clause-end : goal.returns-in-Ok-clause-end
 returns-in-Ok-clause-end g c =
     of_reading c.one_reading.ensures _ (λ settings. MatchBool (named_reads (live_named settings.command) (offline_named settings.command)) (OnDone c.stride_by.result (IfSome (g.S.Source.left c.stride_by.new.source) (λ rest. rest ≡ []))) (c.stride_by.new.source ≡ c.args.source.now)) c.in-Ok.settings c.in-Ok.ensures c.stride_by.ensures.end
 
-pub returns-in-Ok-clause-members : goal.returns-in-Ok-clause-members
-returns-in-Ok-clause-members g c =
-    of_reading c.one_reading.ensures _ (λ settings. OnOrderless (offline_named settings.command) (RefusesNoMember c.stride_by.result)) c.in-Ok.settings c.in-Ok.ensures c.stride_by.ensures.members
+pub returns-in-Ok-clause-refusals : goal.returns-in-Ok-clause-refusals
+returns-in-Ok-clause-refusals g c = of_reading c.one_reading.ensures _ (λ settings. CanEnd settings.command c.stride_by.result) c.in-Ok.settings c.in-Ok.ensures c.stride_by.ensures.refusals
 
-pub returns-in-Ok-clause-logs : goal.returns-in-Ok-clause-logs
-returns-in-Ok-clause-logs g c =
-    of_reading c.one_reading.ensures _ (λ settings. OnLogless (offline_named settings.command) (RefusesNoLogs c.stride_by.result)) c.in-Ok.settings c.in-Ok.ensures c.stride_by.ensures.logs
+pub returns-in-Ok-clause-demo_answer : goal.returns-in-Ok-clause-demo_answer
+returns-in-Ok-clause-demo_answer g c =
+    of_reading c.one_reading.ensures _ (λ settings. OnDemo (offline_named settings.command) (λ number. TellsBy (AnswersDemo number) (g.K.Sink.held c.args.sink.now) (g.K.Sink.held c.stride_by.new.sink) c.stride_by.result)) c.in-Ok.settings c.in-Ok.ensures c.stride_by.ensures.demo_answer
+
+pub returns-in-Ok-clause-demo_within : goal.returns-in-Ok-clause-demo_within
+returns-in-Ok-clause-demo_within g c =
+    of_reading c.one_reading.ensures _ (λ settings. OnDemo (offline_named settings.command) (λ number. c.stride_by.new.steps ≤ c.args.steps.now + demo_looks number)) c.in-Ok.settings c.in-Ok.ensures c.stride_by.ensures.demo_within
 
 pub returns-in-Ok-clause-uncounted : goal.returns-in-Ok-clause-uncounted
 returns-in-Ok-clause-uncounted g c =
@@ -71,3 +77,8 @@ returns-in-Err-Usage-clause-end g c =
 
 pub returns-in-Ok-clause-refused : goal.returns-in-Ok-clause-refused
 returns-in-Ok-clause-refused g c = λ none. absurd (none c.in-Ok.settings c.in-Ok.ensures)
+
+pub returns-in-Err-Usage-clause-demo_answer : goal.returns-in-Err-Usage-clause-demo_answer
+returns-in-Err-Usage-clause-demo_answer g c =
+    let none : IsNoLine _ = rw c.in-Err-Usage.field-0-is at c.in-Err-Usage.ensures in
+    λ settings line. absurd (none settings line)

@@ -1,9 +1,8 @@
-use Rattle.std.proofs.Common.{◌≡◌, ◌++◌, refl}
+use Rattle.std.proofs.Common.{◌≡◌, refl}
 use Rattle.std.proofs.lemmas.Result.{err_from_is_err_and}
-use Rattle.std.specs.Prelude.{codes}
 use Rattle.replayer.specs.Replays.{seen}
 use Rattle.stride_cli.specs.LimitsSeen.{limits_seen}
-use Rattle.stride_cli.specs.Reports.{ends_section}
+use Rattle.stride_cli.specs.Runs.{run_section}
 use Rattle.stride_cli.proofs.Followed.{followed_done, replay_refused}
 use Rattle.stride_cli.proofs.commands.follow.follow_schedule.Goals as goal
 
@@ -14,9 +13,8 @@ returns-in_err-input c =
 
 pub returns : goal.returns
 returns c =
-    let report : c.put_ends.new.report.items ≡ (codes "transcript\n" ++ c.in-Ok.played.transcript.items) ++ ends_section c.in-Ok.played.ends.items =
-    rw (c.in_ok-put_ends.ensures, c.in_ok-push_all-2.ensures.items, c.in_ok-push_all.ensures.items, c.new-report.ensures.items, c.as_slice.ensures, c.as_slice-2.ensures) refl in
-    followed_done (limits_seen c.args.limits) c.args.bytes.now c.in_ok-input.input.program c.in_ok-input.input.order.items (seen c.in-Ok.played) c.put_ends.new.report.items
+    let report : c.put_run.new.report.items ≡ run_section (seen c.in-Ok.played) = rw (c.in_ok-put_run.ensures, c.new-report.ensures.items) refl in
+    followed_done (limits_seen c.args.limits) c.args.bytes.now c.in_ok-input.input.program c.in_ok-input.input.order.items (seen c.in-Ok.played) c.put_run.new.report.items
     c.in_ok-input.ensures.input (rw c.as_slice-order.ensures at c.in-Ok.ensures.run) report
 
 pub returns-in-Err : goal.returns-in-Err
