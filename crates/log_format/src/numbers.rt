@@ -10,6 +10,7 @@ use crate::version::{Size, Version};
 use byteorder::{BigEndian, ByteOrder};
 use stride_isa::limits::{FUEL_LIMIT, THREAD_LIMIT};
 
+#[inline(never)]
 #[tactic(auto, unfolding(crate::specs::Reading::wide_at), using(crate::proofs::BigNumbers::big_number_of))]
 fn wide_at(size: Size, bytes: &[u8]) -> Result<(u64, &[u8]), ReadError>
     ensures { Gives (λ x. (x.0, x.1.now)) result (wide_at size bytes.now) }
@@ -45,6 +46,7 @@ fn last_group_at(wrong: Fault, bytes: &[u8]) -> Result<&[u8], ReadError>
 }
 
 // The higher groups of seven bits, of which eight can have a high bit.
+#[inline(never)]
 fn groups_at(wrong: Fault, bytes: &[u8]) -> Result<(u64, &[u8]), ReadError>
     ensures { Gives (λ x. (x.0, x.1.now)) result (groups_at wrong 8 bytes.now) }
 {
@@ -67,6 +69,7 @@ fn groups_at(wrong: Fault, bytes: &[u8]) -> Result<(u64, &[u8]), ReadError>
     Ok((number + weight, rest))
 }
 
+#[inline(always)]
 #[tactic(auto, unfolding(crate::specs::Reading::grouped_at))]
 fn grouped_at(bytes: &[u8]) -> Result<(u64, &[u8]), ReadError>
     ensures { Gives (λ x. (x.0, x.1.now)) result (grouped_at bytes.now) }
@@ -87,6 +90,7 @@ fn grouped_at(bytes: &[u8]) -> Result<(u64, &[u8]), ReadError>
 }
 
 /// A number of this size.
+#[inline(always)]
 #[tactic(auto, unfolding(crate::specs::Reading::number_at))]
 pub(crate) fn number_at(
     version: Version,
@@ -109,6 +113,7 @@ pub(crate) fn number_at(
 }
 
 /// A number of 32 bits.
+#[inline(always)]
 pub(crate) fn u32_at(version: Version, bytes: &[u8]) -> Result<(u32, &[u8]), ReadError>
     ensures { Gives (λ x. (x.0, x.1.now)) result (number_at version Size.Bits32 bytes.now) }
 {
