@@ -3,7 +3,7 @@
 
 ghost use Rattle.std.specs.Prelude.{◌≡◌, ◌<◌};
 
-use command_words::what_is_wrong;
+use command_words::{Fault, what_is_wrong};
 use recorder::OpenGate;
 use std::alloc::{AllocError, Global};
 use std::io::ErrorKind;
@@ -12,7 +12,7 @@ use std::process::ExitCode;
 use std::sync::Wait;
 use std::sync::ledger::{Blank, Ledger};
 use std::thread::Threads;
-use std::{env, io};
+use std::{env, fmt, io};
 use stride_base::{StdSink, StdSource, Steps};
 use stride_cli::{Status, stride};
 
@@ -54,17 +54,28 @@ fn run<L: Ledger, R: Threads + Wait + Sync + Input + Print>(
     )
 }
 
-/// One line on standard error, where the command is not done: for words that are refused it tells what is wrong with them.
-fn tell<R: Eprint>(rt: &R, status: &Status, words: &[&str]) {
-    let fault = match status {
-        Status::Done => return,
-        Status::Usage => what_is_wrong(words),
-        _ => None,
-    };
-    let _ = match fault {
-        Some(fault) => eprintln!(rt; "stride: {fault}; {status}"),
-        None => eprintln!(rt; "stride: {status}"),
-    };
+/// Why a command is not done: what is wrong with words that are refused, and the status.
+#[derive(Drop)]
+struct Message<'a> {
+    fault: Option<Fault<'a>>,
+    status: &'a Status,
+}
+
+impl fmt::Display for Message<'_> {
+    fn fmt<W: fmt::Write>(&self, f: &mut fmt::Formatter<W>) -> fmt::Result {
+        if let Some(fault) = &self.fault {
+            write!(f, "{fault}; ")?;
+        }
+        write!(f, "{status}", status = self.status)
+    }
+}
+
+/// One line on standard error, where the command is not done.
+fn tell<R: Eprint>(rt: &R, status: &Status, fault: Option<Fault>) {
+    if !matches!(status, Status::Done) {
+        let message = Message { fault, status };
+        let _ = eprintln!(rt; "stride: {message}");
+    }
 }
 
 fn status_of<R: Threads + Wait + Sync + Input + Print + Eprint>(
@@ -76,11 +87,15 @@ fn status_of<R: Threads + Wait + Sync + Input + Print + Eprint>(
     match words {
         Ok(words) => {
             let status = run::<Brand, R>(rt, alloc, &words, Blank::new(1));
-            tell(rt, &status, &words);
+            let fault = match status {
+                Status::Usage => what_is_wrong(&words),
+                _ => None,
+            };
+            tell(rt, &status, fault);
             status
         }
         Err(_) => {
-            tell(rt, &Status::NoMemory, &[]);
+            tell(rt, &Status::NoMemory, None);
             Status::NoMemory
         }
     }
@@ -90,7 +105,7 @@ fn main(rt: HostRuntime) -> ExitCode {
     let status = match words_of(&rt) {
         Ok(args) => status_of(&rt, rt.alloc(), &args),
         Err(status) => {
-            let _ = eprintln!(rt; "stride: {status}");
+            tell(&rt, &status, None);
             status
         }
     };

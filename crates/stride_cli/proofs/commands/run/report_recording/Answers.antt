@@ -5,8 +5,11 @@ use Rattle.stride_cli.specs.Inferring.{Inferred}
 use Rattle.stride_cli.specs.LimitsSeen.{limits_seen}
 use Rattle.stride_cli.specs.Reports.{schedule_section}
 use Rattle.stride_cli.specs.Runs.{run_section}
-use Rattle.stride_cli.proofs.RecordedRuns.{run_found, run_looks}
+use Rattle.stride_cli.proofs.RecordedRuns.{logged_steps, run_found, run_looks}
 use Rattle.stride_cli.proofs.commands.run.report_recording.Goals as goal
+
+pub rerun_recorded-requires : goal.rerun_recorded-requires
+rerun_recorded-requires g c = logged_steps (limits_seen c.args.limits) c.args.program.now (lists_of c.args.logs.items) c.requires
 
 pub returns-clause-run : goal.returns-clause-run
 returns-clause-run g c =
