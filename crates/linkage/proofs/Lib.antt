@@ -25,6 +25,7 @@ pub mod PlacedWrites
 pub mod Progress
 pub mod RefusalOrder
 pub mod RefusedWrites
+pub mod Rounds
 pub mod Rows
 pub mod SpanPlaces
 pub mod ThereLinks

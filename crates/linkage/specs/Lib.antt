@@ -11,6 +11,7 @@ pub mod Misfitting
 pub mod Numbers
 pub mod Placing
 pub mod Refusals
+pub mod Rounds
 pub mod Sources
 pub mod Spans
 pub mod Turns

@@ -19,6 +19,7 @@ mod links;
 mod misfits;
 mod numbered;
 mod placing;
+mod rounds;
 mod row;
 mod spans;
 mod tops;
