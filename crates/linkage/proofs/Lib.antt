@@ -23,9 +23,9 @@ pub mod Parts
 pub mod Placed
 pub mod PlacedWrites
 pub mod Progress
+pub mod Reaching
 pub mod RefusalOrder
 pub mod RefusedWrites
-pub mod Rounds
 pub mod Rows
 pub mod SpanPlaces
 pub mod ThereLinks

@@ -112,7 +112,7 @@ sum_first_most count (row ∷ rows) = omega (arith, sum_by-cons (λ (events : Li
 
 module _ (traces : TraceLists) where
   pub gone_none : (to : ℕ) → gone_through traces 0 to 0 ≡ 0
-  gone_none to = sum_first_none traces.events
+  gone_none to = omega (arith, sum_first_none traces.events)
 
   pub gone_on : (from to t : ℕ) → t < length traces.events → gone_through traces from to (t + 1) + first_events traces from t ≡ gone_through traces from to t + first_events traces to t
   gone_on from to t there =
