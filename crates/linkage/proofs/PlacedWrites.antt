@@ -18,15 +18,16 @@ use Rattle.linkage.specs.declared.placing.Placing.{Placing}
 use Rattle.linkage.specs.declared.spans.Spans.{Spans}
 use Rattle.linkage.specs.AllOf.{StartsGiven, WriteGiven}
 use Rattle.linkage.specs.Checking.{IsRow, NoneBelow}
-use Rattle.linkage.specs.GatherShows.{UpTo, place_at}
+use Rattle.linkage.specs.GatherShows.{place_at}
 use Rattle.linkage.specs.Placing.{AreWriteSpans, IsFull, IsPlaced, IsPut, IsTaken, IsUnfit, IsWritePlaced}
 use Rattle.linkage.specs.Refusals.{IsRefused, IsTwiceWritten, IsWriteGap, rank_of}
+use Rattle.linkage.specs.Rounds.{IsReached, Reached, first_events}
 use Rattle.linkage.specs.Sources.{event_at}
 use Rattle.linkage.specs.Spans.{HasPlace, IsGivenOne, place_of}
 use Rattle.linkage.proofs.AllOfLists.{start_more, nothing_started}
-use Rattle.linkage.proofs.Frontier.{given_before, gives_some, same_numbered}
+use Rattle.linkage.proofs.Frontier.{given_at, gives_some, same_numbered}
 use Rattle.linkage.proofs.Growing.{twice_kept}
-use Rattle.linkage.proofs.Onward.{same_writes, more_writes, next_writes, all_writes, start_writes}
+use Rattle.linkage.proofs.Onward.{part_reached, same_reached, more_reached, next_reached, round_reached, all_reached, start_reached}
 use Rattle.linkage.proofs.Placed.{marks_none, placed_same, placed_more, true_not_false, twice_now}
 use Rattle.linkage.proofs.RefusalOrder.{none_below_first, none_below_next}
 use Rattle.linkage.proofs.SpanPlaces.{number_at, place_inside}
@@ -74,8 +75,8 @@ module _ (traces : TraceLists) (spans : Spans) (are : AreWriteSpans traces spans
       within (Some place) item gives = absurd gives
 
   -- before the first event
-  pub placed_starts : (cells : ℕ) (placing : Placing) → cells ≡ length traces.starts → IsPlaced (StartsGiven (WriteGiven traces) cells) spans placing → IsPlaced (UpTo (place_at 0 0) (WriteGiven traces)) spans placing
-  placed_starts cells placing is placed = placed_same _ _ spans placing placed (start_writes traces cells is)
+  pub placed_starts : (cells to : ℕ) (placing : Placing) → cells ≡ length traces.starts → IsPlaced (StartsGiven (WriteGiven traces) cells) spans placing → IsPlaced (Reached 0 to (place_at 0 0) (WriteGiven traces)) spans placing
+  placed_starts cells to placing is placed = placed_same _ _ spans placing placed (start_reached traces cells to is)
 
   module _ (t i : ℕ) (event : Event) (there : event_at traces (place_at t i) ≡ Some event) where
     -- the event's write has a place
@@ -86,20 +87,20 @@ module _ (traces : TraceLists) (spans : Spans) (are : AreWriteSpans traces spans
         known None is = tt
         known (Some write) is = write_place (Some (place_at t i)) (record { owner = write.cell; number = write.number; value = write.value }) (gives_some traces (place_at t i) event there write_of _ is)
 
-    module _ (old new : Placing) (placed : IsPlaced (UpTo (place_at t i) (WriteGiven traces)) spans old) where
-      within : (source : Option Place) (item : Numbered ℕ) → UpTo (place_at t i) (WriteGiven traces) source item → HasPlace spans item.owner item.number
-      within source item gives = write_place source item (given_before (WriteGiven traces) (place_at t i) source item gives)
+    module _ (from to : ℕ) (on : from ≤ i) (old new : Placing) (placed : IsPlaced (Reached from to (place_at t i) (WriteGiven traces)) spans old) where
+      within : (source : Option Place) (item : Numbered ℕ) → Reached from to (place_at t i) (WriteGiven traces) source item → HasPlace spans item.owner item.number
+      within source item gives = write_place source item (given_at (WriteGiven traces) (IsReached from to (place_at t i)) source item gives)
 
       -- past an event whose write was put at its place
-      pub placed_step : IsTaken spans (write_of event) old new true → IsPlaced (UpTo (place_at t (i + 1)) (WriteGiven traces)) spans new
+      pub placed_step : IsTaken spans (write_of event) old new true → IsPlaced (Reached from to (place_at t (i + 1)) (WriteGiven traces)) spans new
       placed_step taken = known (write_of event) refl taken
         where
-          known : (write : Option WriteOf) → write_of event ≡ write → IsTaken spans write old new true → IsPlaced (UpTo (place_at t (i + 1)) (WriteGiven traces)) spans new
-          known None is taken = rw taken.0 (placed_same _ _ spans old placed (same_writes traces t i event there is))
+          known : (write : Option WriteOf) → write_of event ≡ write → IsTaken spans write old new true → IsPlaced (Reached from to (place_at t (i + 1)) (WriteGiven traces)) spans new
+          known None is taken = rw taken.0 (placed_same _ _ spans old placed (same_reached traces from to t i on event there is))
           known (Some write) is taken =
               let x : Numbered ℕ = record { owner = write.cell; number = write.number; value = write.value } in
               let has = write_place (Some (place_at t i)) x (gives_some traces (place_at t i) event there write_of _ is) in
-              placed_more _ _ spans are.shape old new _ x placed (more_writes traces t i event there x is) has (λ one. true_not_false _ (placed.marks.marked write.cell write.number has one) taken.0) within taken.1
+              placed_more _ _ spans are.shape old new _ x placed (more_reached traces from to t i on event there x is) has (λ one. true_not_false _ (placed.marks.marked write.cell write.number has one) taken.0) within taken.1
 
       -- an event whose write has the place of another
       pub unfit_step : IsTaken spans (write_of event) old new false → IsUnfit traces
@@ -110,19 +111,28 @@ module _ (traces : TraceLists) (spans : Spans) (are : AreWriteSpans traces spans
           known (Some write) is taken = λ none.
               let x : Numbered ℕ = record { owner = write.cell; number = write.number; value = write.value } in
               let has = write_place (Some (place_at t i)) x (gives_some traces (place_at t i) event there write_of _ is) in
-              let now = twice_now _ _ spans old.filled.items placed.marks _ x (more_writes traces t i event there x is) (placed.marks.meant write.cell write.number has taken) in
-              let g = twice_kept _ _ (given_before (WriteGiven traces) (place_at t (i + 1))) write.cell write.number now in
+              let now = twice_now _ _ spans old.filled.items placed.marks _ x (more_reached traces from to t i on event there x is) (placed.marks.meant write.cell write.number has taken) in
+              let g = twice_kept _ _ (given_at (WriteGiven traces) (IsReached from to (place_at t (i + 1)))) write.cell write.number now in
               let refused : IsTwiceWritten traces write.cell write.number = record { one = g.one; other = g.other; differ = g.differ; one_value = g.one_value; one_writes = g.one_gives; other_value = g.other_value; other_writes = g.other_gives } in
               let above : 3 ≤ 1 = none (TwiceWritten write.cell write.number) refused in
               omega arith
 
-  -- past the last event of a thread
-  pub placed_next : (t count : ℕ) (placing : Placing) → count ≡ length (events_of traces t) → IsPlaced (UpTo (place_at t count) (WriteGiven traces)) spans placing → IsPlaced (UpTo (place_at (t + 1) 0) (WriteGiven traces)) spans placing
-  placed_next t count placing is placed = placed_same _ _ spans placing placed (next_writes traces t count is)
+  module _ (from to : ℕ) (placing : Placing) where
+    -- where a thread's part of a round begins
+    pub placed_part : (t start : ℕ) → start ≤ from → IsPlaced (Reached from to (place_at t 0) (WriteGiven traces)) spans placing → IsPlaced (Reached from to (place_at t start) (WriteGiven traces)) spans placing
+    placed_part t start low placed = placed_same _ _ spans placing placed (part_reached traces from to t start low)
 
-  -- past the last thread
-  pub placed_all : (threads : ℕ) (placing : Placing) → threads ≡ length traces.events → IsPlaced (UpTo (place_at threads 0) (WriteGiven traces)) spans placing → IsPlaced (WriteGiven traces) spans placing
-  placed_all threads placing is placed = placed_same _ _ spans placing placed (all_writes traces threads is)
+    -- past a thread's part of a round
+    pub placed_next : (t stop : ℕ) → stop ≡ first_events traces to t → IsPlaced (Reached from to (place_at t stop) (WriteGiven traces)) spans placing → IsPlaced (Reached from to (place_at (t + 1) 0) (WriteGiven traces)) spans placing
+    placed_next t stop is placed = placed_same _ _ spans placing placed (next_reached traces from to t stop is)
+
+    -- past a round
+    pub placed_round : (threads later : ℕ) → threads ≡ length traces.events → from ≤ to → IsPlaced (Reached from to (place_at threads 0) (WriteGiven traces)) spans placing → IsPlaced (Reached to later (place_at 0 0) (WriteGiven traces)) spans placing
+    placed_round threads later all on placed = placed_same _ _ spans placing placed (round_reached traces from to threads later all on)
+
+    -- past the last round
+    pub placed_all : ((thread : ℕ) → length (events_of traces thread) ≤ from) → IsPlaced (Reached from to (place_at 0 0) (WriteGiven traces)) spans placing → IsPlaced (WriteGiven traces) spans placing
+    placed_all most placed = placed_same _ _ spans placing placed (all_reached traces from to most)
 
   module _ (placing : Placing) (placed : IsPlaced (WriteGiven traces) spans placing) where
     -- where nothing is wrong with the numbers, every place is full

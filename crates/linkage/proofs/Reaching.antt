@@ -13,7 +13,7 @@ use Rattle.linkage.specs.AllOf.{StartsGiven, WriteGiven}
 use Rattle.linkage.specs.GatherShows.{place_at}
 use Rattle.linkage.specs.Rounds.{IsReached, Reached, first_events, gone_through, sum_first}
 use Rattle.linkage.specs.Sources.{event_at, event_count}
-use Rattle.linkage.proofs.Frontier.{same_place}
+use Rattle.linkage.proofs.Frontier.{same_place, IsOneMore}
 
 -- places
 module _ (from to t : ℕ) where
@@ -49,6 +49,10 @@ module _ (from to t : ℕ) where
         | inr now ↦ elim now [ inl earlier ↦ omega (arith, earlier.1) | inr same ↦ omega (arith, same.1) ]
       ]
 
+  -- an event more of a thread
+  pub one_reached : (i : ℕ) → from ≤ i → IsOneMore (IsReached from to (place_at t i)) (IsReached from to (place_at t (i + 1))) (place_at t i)
+  one_reached i start = record { kept = reached_further i; here = reached_here i; last = reached_last i; fresh = not_reached_itself i start }
+
   -- where a thread's part of the round begins, only what was gone through with the threads before is reached
   pub reached_at_start : (start : ℕ) → start ≤ from → (place : Place) → IsReached from to (place_at t start) place → (place.place < from) ⊎ ((place.place < to) × (place.thread < t))
   reached_at_start start low place reached =
@@ -56,6 +60,9 @@ module _ (from to t : ℕ) where
         | inl before ↦ inl before
         | inr now ↦ elim now [ inl earlier ↦ inr earlier | inr same ↦ inl (omega (arith, same.1, low)) ]
       ]
+
+  pub reached_from_start : (start other : ℕ) → start ≤ from → (place : Place) → IsReached from to (place_at t start) place → IsReached from to (place_at t other) place
+  reached_from_start start other low place reached = elim (reached_at_start start low place reached) [ inl before ↦ inl before | inr earlier ↦ inr (inl earlier) ]
 
 -- the end of a thread's part of a round is the start of the next thread's
 module _ (from to t stop next : ℕ) (low : next ≤ from) (place : Place) where
@@ -106,9 +113,14 @@ sum_first_none : (rows : List (List Event)) → sum_first 0 rows ≡ 0
 sum_first_none [] = refl
 sum_first_none (row ∷ rows) = omega (arith, sum_by-cons (λ (events : List Event). min 0 (length events)) row rows, sum_first_none rows)
 
-sum_first_most : (count : ℕ) (rows : List (List Event)) → sum_first count rows ≤ sum_by length rows
+pub sum_first_most : (count : ℕ) (rows : List (List Event)) → sum_first count rows ≤ sum_by length rows
 sum_first_most count [] = omega arith
 sum_first_most count (row ∷ rows) = omega (arith, sum_by-cons (λ (events : List Event). min count (length events)) row rows, sum_by-cons length row rows, sum_first_most count rows)
+
+sum_first_grows : (from to : ℕ) → from ≤ to → (rows : List (List Event)) → sum_first from rows ≤ sum_first to rows
+sum_first_grows from to on [] = omega arith
+sum_first_grows from to on (row ∷ rows) =
+    omega (arith, on, sum_by-cons (λ (events : List Event). min from (length events)) row rows, sum_by-cons (λ (events : List Event). min to (length events)) row rows, sum_first_grows from to on rows)
 
 module _ (traces : TraceLists) where
   pub gone_none : (to : ℕ) → gone_through traces 0 to 0 ≡ 0
@@ -134,3 +146,8 @@ module _ (traces : TraceLists) where
 
   pub gone_most : (from to t : ℕ) → gone_through traces from to t ≤ event_count traces
   gone_most from to t = omega (arith, sum_first_most to (take t traces.events), sum_first_most from (drop t traces.events), sum_by-take-drop length traces.events t)
+
+  -- no more than by the end of the round
+  pub gone_by_end : (from to t : ℕ) → from ≤ to → gone_through traces from to t ≤ sum_first to traces.events
+  gone_by_end from to t on =
+      omega (arith, sum_first_grows from to on (drop t traces.events), sum_by-take-drop (λ (events : List Event). min to (length events)) traces.events t)

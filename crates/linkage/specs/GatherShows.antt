@@ -22,10 +22,14 @@ IsBefore place other = Earlier place.thread place.place other.thread other.place
 abbrev pub events_before : TraceLists → Place → ℕ
 events_before traces place = sum_by length (take place.thread traces.events) + place.place
 
+-- what is given from the start, or by an event at one of these places
+abbrev pub GivenAt : {V : Type 0} → (Place → Type 0) → (Option Place → Numbered V → Type 0) → Option Place → Numbered V → Type 0
+GivenAt at given None item = given None item
+GivenAt at given (Some source) item = given (Some source) item × at source
+
 -- what is given from the start, or by an event before the place
 abbrev pub UpTo : {V : Type 0} → Place → (Option Place → Numbered V → Type 0) → Option Place → Numbered V → Type 0
-UpTo place given None item = given None item
-UpTo place given (Some source) item = given (Some source) item × IsBefore source place
+UpTo place given = GivenAt (λ source. IsBefore source place) given
 
 -- a source of an entry into a monitor
 abbrev pub EntryGiven : TraceLists → Option Place → Numbered (Unit {0}) → Type 0

@@ -13,7 +13,7 @@ use Rattle.linkage.specs.declared.spans.Spans.{Spans}
 use Rattle.linkage.specs.declared.tops.Tops.{Tops}
 use Rattle.linkage.specs.AllOf.{IsGivenTwice, WriteGiven}
 use Rattle.linkage.specs.Checking.{NoneBelow}
-use Rattle.linkage.specs.GatherShows.{EntryGiven, UpTo, place_at}
+use Rattle.linkage.specs.GatherShows.{EntryGiven, UpTo}
 use Rattle.linkage.specs.Sources.{event_count}
 use Rattle.linkage.specs.Spans.{AreMarks, AreSpans, AreTops, HasPlace, place_of}
 
@@ -89,7 +89,7 @@ abbrev pub IsPlacedAnswer : TraceLists → Spans → Option Placing → Type 0
 IsPlacedAnswer traces spans (Some placing) = IsPlaced (WriteGiven traces) spans placing × IsFull placing.filled.items × (spans.places ≤ fuel_limit * thread_limit + cell_limit)
 IsPlacedAnswer traces spans None = IsUnplaced traces spans
 
--- the writes of the threads up to this one are at their places, or something is wrong with their numbers
-abbrev pub IsThreadPlaced : TraceLists → ℕ → Spans → Placing → Bool → Type 0
-IsThreadPlaced traces thread spans placing true = IsPlaced (UpTo (place_at (thread + 1) 0) (WriteGiven traces)) spans placing
-IsThreadPlaced traces thread spans placing false = IsUnfit traces
+-- what is given is at its places, or something is wrong with the numbers of writes
+abbrev pub IsPlacedOrUnfit : TraceLists → (Option Place → Numbered ℕ → Type 0) → Spans → Placing → Bool → Type 0
+IsPlacedOrUnfit traces given spans placing true = IsPlaced given spans placing
+IsPlacedOrUnfit traces given spans placing false = IsUnfit traces

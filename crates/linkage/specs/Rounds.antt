@@ -1,10 +1,11 @@
 -- How far events were gone through where all threads are gone through side by side, so many events of each in a round.
-use Rattle.std.specs.Prelude.{◌≡◌, ℕ, ◌+◌, ◌<◌, ◌⊎◌, List, Option, Some, None, drop, length, min, take}
+use Rattle.std.specs.Prelude.{◌≡◌, ℕ, ◌+◌, ◌<◌, ◌⊎◌, List, Option, drop, length, min, take}
 use Rattle.std.specs.List.{sum_by}
 use Rattle.interleavings.specs.declared.event.Event.{Event}
 use Rattle.interleavings.specs.declared.traces.Place.{Place}
 use Rattle.interleavings.specs.TraceLists.{TraceLists, events_of}
 use Rattle.linkage.specs.declared.numbered.Numbered.{Numbered}
+use Rattle.linkage.specs.GatherShows.{GivenAt}
 
 -- the event was gone through: in a round before, in this round with an earlier thread, or as an earlier one of this thread
 abbrev pub IsReached : ℕ → ℕ → Place → Place → Type 0
@@ -12,8 +13,7 @@ IsReached from to at place = (place.place < from) ⊎ (((place.place < to) × (p
 
 -- what is given from the start, or by an event that was gone through
 abbrev pub Reached : {V : Type 0} → ℕ → ℕ → Place → (Option Place → Numbered V → Type 0) → Option Place → Numbered V → Type 0
-Reached from to at given None item = given None item
-Reached from to at given (Some source) item = given (Some source) item × IsReached from to at source
+Reached from to at given = GivenAt (IsReached from to at) given
 
 -- how many of a thread's first events there are
 abbrev pub first_events : TraceLists → ℕ → ℕ → ℕ

@@ -1,13 +1,14 @@
 //! All writes, each put at the place of its cell and number.
-ghost use Rattle.std.specs.Prelude.{◌≡◌, ◌+◌, ◌*◌, ◌<◌, ◌≤◌, ◌↔◌, IfOk, IsTrue, length};
+ghost use Rattle.std.specs.Prelude.{◌≡◌, ℕ, ◌+◌, ◌*◌, ◌<◌, ◌≤◌, ◌↔◌, IfOk, IsTrue, length};
 ghost use Rattle.interleavings.specs.Events.{write_of};
-ghost use Rattle.interleavings.specs.TraceLists.{events_of};
 ghost use Rattle.linkage.specs.AllOf.{WriteGiven};
-ghost use Rattle.linkage.specs.GatherShows.{UpTo, place_at};
-ghost use Rattle.linkage.specs.Placing.{AreWriteSpans, IsFull, IsPlaced, IsPlacedAnswer, IsPut, IsTaken, IsThreadPlaced, IsWritePlaced};
+ghost use Rattle.linkage.specs.GatherShows.{place_at};
+ghost use Rattle.linkage.specs.Placing.{AreWriteSpans, IsFull, IsPlaced, IsPlacedAnswer, IsPlacedOrUnfit, IsPut, IsTaken, IsWritePlaced};
+ghost use Rattle.linkage.specs.Rounds.{first_events, sum_first, Reached};
 ghost use Rattle.linkage.specs.Sources.{event_count};
 ghost use Rattle.linkage.specs.Spans.{AreSpans, HasPlace, place_of};
 
+use crate::rounds::{longest, ROUND};
 use crate::spans::Spans;
 use interleavings::{Event, Traces};
 use std::alloc::Global;
@@ -91,7 +92,7 @@ impl Placing {
 // The starting values, which are the writes numbered 0, at their places.
 fn starting_values(alloc: Global, traces: &Traces, spans: &Spans) -> Result<Placing, NoMemory>
     requires { AreWriteSpans traces.now spans.now }
-    ensures { IfOk result (λ placing. IsPlaced (UpTo (place_at 0 0) (WriteGiven traces.now)) spans.now placing) }
+    ensures { IfOk result (λ placing. (to : ℕ) → IsPlaced (Reached 0 to (place_at 0 0) (WriteGiven traces.now)) spans.now placing) }
 {
     let mut placing = Placing {
         values: vec![in alloc; 0; spans.places]?,
@@ -103,25 +104,76 @@ fn starting_values(alloc: Global, traces: &Traces, spans: &Spans) -> Result<Plac
     Ok(placing)
 }
 
-// Puts the writes of a thread at their places. It ends where two have one place.
-fn place_thread<L: Ledger>(
+// Puts the writes of a thread's events from one place on, and before another, at their places. It ends where two have one place.
+fn place_part<L: Ledger>(
     traces: &Traces,
     thread: u32,
+    from: u32,
+    to: u32,
     spans: &Spans,
     placing: &mut Placing,
     steps: &mut Steps<L>,
 ) -> bool
     requires thread { thread < length traces.now.events }
+    requires order { from ≤ to }
     requires spans { AreWriteSpans traces.now spans.now }
-    requires placing { IsPlaced (UpTo (place_at thread 0) (WriteGiven traces.now)) spans.now placing.old }
-    ensures placing { IsThreadPlaced traces.now thread spans.now placing.new result }
-    ensures looks { steps.new ≤ steps.old + length (events_of traces.now thread) }
+    requires placing { IsPlaced (Reached from to (place_at thread 0) (WriteGiven traces.now)) spans.now placing.old }
+    ensures placing { IsPlacedOrUnfit traces.now (Reached from to (place_at (thread + 1) 0) (WriteGiven traces.now)) spans.now placing.new result }
+    ensures looks { steps.new + first_events traces.now from thread ≤ steps.old + first_events traces.now to thread }
 {
-    for place in 0..traces.count(thread) {
+    let count = traces.count(thread);
+    for place in from.min(count)..to.min(count) {
         let event = traces.at(thread, place, steps);
         if !placing.take(spans, event) {
             return false;
         }
+    }
+    true
+}
+
+// Puts the writes of all threads' events from one place on, and before another, at their places. It ends where two have one place.
+fn place_round<L: Ledger>(
+    traces: &Traces,
+    from: u32,
+    to: u32,
+    spans: &Spans,
+    placing: &mut Placing,
+    steps: &mut Steps<L>,
+) -> bool
+    requires order { from ≤ to }
+    requires spans { AreWriteSpans traces.now spans.now }
+    requires placing { IsPlaced (Reached from to (place_at 0 0) (WriteGiven traces.now)) spans.now placing.old }
+    ensures placing { (later : ℕ) → IsPlacedOrUnfit traces.now (Reached to later (place_at 0 0) (WriteGiven traces.now)) spans.now placing.new result }
+    ensures looks { steps.new + sum_first from traces.now.events ≤ steps.old + sum_first to traces.now.events }
+{
+    for thread in 0..traces.threads() {
+        if !place_part(traces, thread, from, to, spans, placing, steps) {
+            return false;
+        }
+    }
+    true
+}
+
+// Puts the writes of all events at their places, round by round. It ends where two have one place.
+fn place_events<L: Ledger>(
+    traces: &Traces,
+    spans: &Spans,
+    placing: &mut Placing,
+    steps: &mut Steps<L>,
+) -> bool
+    requires spans { AreWriteSpans traces.now spans.now }
+    requires placing { (to : ℕ) → IsPlaced (Reached 0 to (place_at 0 0) (WriteGiven traces.now)) spans.now placing.old }
+    ensures placing { IsPlacedOrUnfit traces.now (WriteGiven traces.now) spans.now placing.new result }
+    ensures looks { steps.new ≤ steps.old + event_count traces.now }
+{
+    let longest = longest(traces);
+    let mut from = 0;
+    while from < longest {
+        let to = from + ROUND;
+        if !place_round(traces, from, to, spans, placing, steps) {
+            return false;
+        }
+        from = to;
     }
     true
 }
@@ -141,12 +193,7 @@ pub(crate) fn place_writes<L: Ledger>(
         return Ok(None);
     }
     let mut placing = starting_values(alloc, traces, spans)?;
-    for thread in 0..traces.threads() {
-        if !place_thread(traces, thread, spans, &mut placing, steps) {
-            return Ok(None);
-        }
-    }
-    if placing.is_full() {
+    if place_events(traces, spans, &mut placing, steps) && placing.is_full() {
         Ok(Some(placing))
     } else {
         Ok(None)

@@ -8,5 +8,5 @@ loop-cell-preserved c =
     placed_start c.args.traces.now c.args.spans.now c.requires c.loop-cell.cell c.start_of.result c.loop-cell.placing c.put.new.self (omega (arith, c.cells-cell-end.ensures.count)) c.start_of.ensures c.loop-cell.invariant put
 
 pub returns : goal.returns
-returns c =
-    placed_starts c.args.traces.now c.args.spans.now c.requires c.loop-cell.cell c.loop-cell.placing (omega (arith, c.loop-cell-test.false, c.cells-cell-end.ensures.count)) c.loop-cell.invariant
+returns c = λ to.
+    placed_starts c.args.traces.now c.args.spans.now c.requires c.loop-cell.cell to c.loop-cell.placing (omega (arith, c.loop-cell-test.false, c.cells-cell-end.ensures.count)) c.loop-cell.invariant
