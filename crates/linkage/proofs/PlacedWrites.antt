@@ -1,10 +1,9 @@
 -- The writes of all events at their places, event by event.
-use Rattle.std.proofs.Common.{◌≡◌, ◌∙◌, ℕ, ◌+◌, ◌*◌, ◌<◌, ◌≤◌, true, false, inl, inr, length, replicate, refl, sym, ap, subst, arith}
+use Rattle.std.proofs.Common.{◌≡◌, ◌∙◌, ℕ, ◌+◌, ◌*◌, ◌<◌, ◌≤◌, true, false, inl, inr, length, refl, sym, ap, subst, arith}
 use Rattle.std.specs.Prelude.{Option, Some, None, slice_get, slice_index}
 use Rattle.std.specs.List.{slice_index_or}
 use Rattle.std.proofs.Math.Nat.{eq-or-lt_of_le}
 use Rattle.std.proofs.lemmas.Bool.{cases_Bool}
-use Rattle.std.proofs.lemmas.List.{length-replicate}
 use Rattle.std.proofs.lemmas.Option.{slice_get-get_or}
 use Rattle.stride_isa.specs.Limits.{cell_limit, fuel_limit, thread_limit}
 use Rattle.interleavings.specs.declared.event.Event.{Event}
@@ -24,11 +23,11 @@ use Rattle.linkage.specs.Refusals.{IsRefused, IsTwiceWritten, IsWriteGap, rank_o
 use Rattle.linkage.specs.Rounds.{IsReached, Reached, first_events}
 use Rattle.linkage.specs.Sources.{event_at}
 use Rattle.linkage.specs.Spans.{HasPlace, IsGivenOne, place_of}
-use Rattle.linkage.proofs.AllOfLists.{start_more, nothing_started}
+use Rattle.linkage.proofs.AllOfLists.{start_more}
 use Rattle.linkage.proofs.Frontier.{given_at, gives_some, same_numbered}
 use Rattle.linkage.proofs.Growing.{twice_kept}
 use Rattle.linkage.proofs.Onward.{part_reached, same_reached, more_reached, next_reached, round_reached, all_reached, start_reached}
-use Rattle.linkage.proofs.Placed.{marks_none, placed_same, placed_more, true_not_false, twice_now}
+use Rattle.linkage.proofs.Placed.{placed_same, placed_more, true_not_false, twice_now}
 use Rattle.linkage.proofs.RefusalOrder.{none_below_first, none_below_next}
 use Rattle.linkage.proofs.SpanPlaces.{number_at, place_inside}
 
@@ -36,15 +35,6 @@ module _ (traces : TraceLists) (spans : Spans) (are : AreWriteSpans traces spans
   -- each write has a place
   pub write_place : (source : Option Place) (item : Numbered ℕ) → WriteGiven traces source item → HasPlace spans item.owner item.number
   write_place source item gives = (omega (arith, are.tops.count, are.tops.owned source item gives), are.tops.above source item gives)
-
-  -- no place has a write at first
-  pub placed_none : (placing : Placing) → placing.filled.items ≡ replicate spans.places false → placing.values.items ≡ replicate spans.places 0 → IsPlaced (StartsGiven (WriteGiven traces) 0) spans placing
-  placed_none placing filled values = record {
-    marks = marks_none (StartsGiven (WriteGiven traces) 0) spans placing.filled.items (nothing_started (WriteGiven traces)) filled;
-    count = ap length values ∙ length-replicate spans.places 0;
-    values = λ source item gives. absurd (nothing_started (WriteGiven traces) source item gives);
-    single = λ owner number twice. nothing_started (WriteGiven traces) twice.one _ twice.one_gives;
-  }
 
   -- the place of a cell's number 0
   pub start_place : (cell : ℕ) → cell < length traces.starts → HasPlace spans cell 0

@@ -1,18 +1,15 @@
 -- What was gone through, as rounds go on.
-use Rattle.std.proofs.Common.{◌≡◌, ◌∙◌, ℕ, ◌+◌, ◌<◌, ◌≤◌, ◌⊎◌, inl, inr, List, [], ◌∷◌, length, min, take, drop, refl, sym, ap, subst, arith}
-use Rattle.std.specs.Prelude.{Option, Some, None}
+use Rattle.std.proofs.Common.{◌≡◌, ℕ, ◌+◌, ◌<◌, ◌≤◌, ◌⊎◌, inl, inr, List, [], ◌∷◌, length, min, take, drop, refl, arith}
 use Rattle.std.specs.List.{sum_by}
 use Rattle.std.proofs.Math.Nat.{eq-or-lt_of_le}
 use Rattle.std.proofs.lemmas.List.{at_drop_all}
 use Rattle.std.proofs.lemmas.List.Sums.{sum_by-cons, sum_by-take-drop, sum_by_more, sum_by-drop_more}
 use Rattle.interleavings.specs.declared.event.Event.{Event}
 use Rattle.interleavings.specs.declared.traces.Place.{Place}
-use Rattle.interleavings.specs.TraceLists.{TraceLists, events_of}
-use Rattle.linkage.specs.declared.numbered.Numbered.{Numbered}
-use Rattle.linkage.specs.AllOf.{StartsGiven, WriteGiven}
+use Rattle.interleavings.specs.TraceLists.{TraceLists}
 use Rattle.linkage.specs.GatherShows.{place_at}
-use Rattle.linkage.specs.Rounds.{IsReached, Reached, first_events, gone_through, sum_first}
-use Rattle.linkage.specs.Sources.{event_at, event_count}
+use Rattle.linkage.specs.Rounds.{IsReached, first_events, gone_through, sum_first}
+use Rattle.linkage.specs.Sources.{event_count}
 use Rattle.linkage.proofs.Frontier.{same_place, IsOneMore}
 
 -- places

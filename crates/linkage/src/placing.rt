@@ -8,7 +8,7 @@ ghost use Rattle.linkage.specs.Rounds.{first_events, sum_first, Reached};
 ghost use Rattle.linkage.specs.Sources.{event_count};
 ghost use Rattle.linkage.specs.Spans.{AreSpans, HasPlace, place_of};
 
-use crate::rounds::{longest, ROUND};
+use crate::rounds::{ROUND, longest};
 use crate::spans::Spans;
 use interleavings::{Event, Traces};
 use std::alloc::Global;

@@ -1,4 +1,4 @@
-use Rattle.std.proofs.Common.{inr, arith}
+use Rattle.std.proofs.Common.{inr}
 use Rattle.linkage.proofs.Placed.{true_not_false}
 use Rattle.linkage.proofs.PlacedWrites.{fit_full}
 use Rattle.linkage.proofs.placing.place_writes.Goals as goal
