@@ -1,9 +1,9 @@
 -- Writes at their places, as what is given grows.
-use Rattle.std.proofs.Common.{◌≡◌, ◌≢◌, ◌∙◌, ℕ, zero, suc, Bool, true, false, inl, inr, List, length, replicate, set, refl, sym, ap, subst, arith, get_or-set_same, get_or-set_other}
+use Rattle.std.proofs.Common.{◌≡◌, ◌≢◌, ◌∙◌, ℕ, Bool, true, false, inl, inr, List, length, set, refl, sym, ap, subst, arith, get_or-set_same, get_or-set_other}
 use Rattle.std.specs.Prelude.{Option, slice_index}
 use Rattle.std.specs.List.{slice_index_or}
 use Rattle.std.proofs.lemmas.Bool.{cases_eq}
-use Rattle.std.proofs.lemmas.List.{length-replicate, length-set}
+use Rattle.std.proofs.lemmas.List.{length-set}
 use Rattle.interleavings.specs.declared.traces.Place.{Place}
 use Rattle.linkage.specs.declared.numbered.Numbered.{Numbered}
 use Rattle.linkage.specs.declared.placing.Placing.{Placing}
@@ -14,21 +14,8 @@ use Rattle.linkage.specs.Spans.{AreMarks, AreSpans, HasPlace, IsGivenOne, place_
 use Rattle.linkage.proofs.Growing.{IsSame, IsMore, one_kept, twice_kept}
 use Rattle.linkage.proofs.SpanPlaces.{place_inside, places_apart}
 
-zeros_at : (count i : ℕ) → slice_index_or (replicate count false) i false ≡ false
-zeros_at zero i = refl
-zeros_at (suc count) zero = refl
-zeros_at (suc count) (suc i) = zeros_at count i
-
 pub true_not_false : (b : Bool) → b ≡ true → b ≡ false → ⊥
 true_not_false b is_true is_false = cc
-
--- where nothing is given, no place is marked
-pub marks_none : {V : Type 0} (given : Option Place → Numbered V → Type 0) (spans : Spans) (marks : List Bool) → ((source : Option Place) (item : Numbered V) → given source item → ⊥) → marks ≡ replicate spans.places false → AreMarks given spans marks
-marks_none given spans marks nothing is = record {
-  count = ap length is ∙ length-replicate spans.places false;
-  marked = λ owner number has one. absurd (nothing one.source _ one.gives);
-  meant = λ owner number has marked. absurd (true_not_false _ marked (ap (λ ms. slice_index_or ms (place_of spans owner number) false) is ∙ zeros_at spans.places (place_of spans owner number)));
-}
 
 module _ {V : Type 0} (given given' : Option Place → Numbered V → Type 0) (spans : Spans) (marks : List Bool) (are : AreMarks given spans marks) where
   pub marks_same : IsSame given given' → AreMarks given' spans marks
