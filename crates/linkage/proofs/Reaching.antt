@@ -2,7 +2,6 @@
 use Rattle.std.proofs.Common.{◌≡◌, ℕ, ◌+◌, ◌<◌, ◌≤◌, ◌⊎◌, inl, inr, List, [], ◌∷◌, length, min, take, drop, refl, arith}
 use Rattle.std.specs.List.{sum_by}
 use Rattle.std.proofs.Math.Nat.{eq-or-lt_of_le}
-use Rattle.std.proofs.lemmas.List.{at_drop_all}
 use Rattle.std.proofs.lemmas.List.Sums.{sum_by-cons, sum_by-take-drop, sum_by_more, sum_by-drop_more}
 use Rattle.interleavings.specs.declared.event.Event.{Event}
 use Rattle.interleavings.specs.declared.traces.Place.{Place}
@@ -106,10 +105,6 @@ nothing_reached to place reached =
     ]
 
 -- counts
-sum_first_none : (rows : List (List Event)) → sum_first 0 rows ≡ 0
-sum_first_none [] = refl
-sum_first_none (row ∷ rows) = omega (arith, sum_by-cons (λ (events : List Event). min 0 (length events)) row rows, sum_first_none rows)
-
 pub sum_first_most : (count : ℕ) (rows : List (List Event)) → sum_first count rows ≤ sum_by length rows
 sum_first_most count [] = omega arith
 sum_first_most count (row ∷ rows) = omega (arith, sum_by-cons (λ (events : List Event). min count (length events)) row rows, sum_by-cons length row rows, sum_first_most count rows)
@@ -120,25 +115,12 @@ sum_first_grows from to on (row ∷ rows) =
     omega (arith, on, sum_by-cons (λ (events : List Event). min from (length events)) row rows, sum_by-cons (λ (events : List Event). min to (length events)) row rows, sum_first_grows from to on rows)
 
 module _ (traces : TraceLists) where
-  pub gone_none : (to : ℕ) → gone_through traces 0 to 0 ≡ 0
-  gone_none to = omega (arith, sum_first_none traces.events)
-
   pub gone_on : (from to t : ℕ) → t < length traces.events → gone_through traces from to (t + 1) + first_events traces from t ≡ gone_through traces from to t + first_events traces to t
   gone_on from to t there =
       omega (
         arith,
         sum_by_more (λ (events : List Event). min to (length events)) traces.events t [] there,
         sum_by-drop_more (λ (events : List Event). min from (length events)) traces.events t [] there,
-      )
-
-  pub gone_round : (from to later threads : ℕ) → threads ≡ length traces.events → gone_through traces from to threads ≡ gone_through traces to later 0
-  gone_round from to later threads all =
-      let past : length traces.events ≤ threads = omega (arith, all) in
-      omega (
-        arith,
-        at_drop_all (sum_first from) traces.events threads past,
-        at_drop_all (sum_first to) traces.events threads past,
-        sum_by-take-drop (λ (events : List Event). min to (length events)) traces.events threads,
       )
 
   pub gone_most : (from to t : ℕ) → gone_through traces from to t ≤ event_count traces
