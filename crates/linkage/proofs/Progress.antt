@@ -1,9 +1,9 @@
 -- Linking event by event.
-use Rattle.std.proofs.Common.{◌≡◌, ◌∙◌, ℕ, ◌+◌, ◌<◌, ◌≤◌, ◌⊎◌, inl, inr, List, [], ◌∷◌, ◌++◌, length, get_or, min, take, drop, set, refl, sym, ap, subst, arith, length-append, get_or-set_other, get_or-set_same}
-use Rattle.std.specs.Prelude.{Option, Some, None, Result, Ok, Err}
+use Rattle.std.proofs.Common.{◌≡◌, ◌∙◌, ℕ, ◌+◌, ◌<◌, ◌≤◌, ◌⊎◌, inl, inr, List, [], ◌∷◌, ◌++◌, length, get_or, min, drop, set, refl, sym, ap, subst, arith, length-append, get_or-set_other, get_or-set_same}
+use Rattle.std.specs.Prelude.{Option, Some, None, Ok, Err}
 use Rattle.std.proofs.Math.ListN.{length-set}
 use Rattle.std.proofs.Math.Nat.{eq-or-lt_of_le}
-use Rattle.std.proofs.lemmas.Bool.{cases_eq, cases_lt}
+use Rattle.std.proofs.lemmas.Bool.{cases_lt}
 use Rattle.std.proofs.lemmas.List.{get_or_append_left, get_or_past, get_or_push}
 use Rattle.std.proofs.lemmas.List.Sums.{sum_by-cons, sum_by-take-drop}
 use Rattle.interleavings.specs.declared.event.Event.{Event}
@@ -120,14 +120,6 @@ module _ (traces : TraceLists) where
     too_large = same_first (IsBoundTooLarge traces) seen seen' (λ place m. back place (too_large_there place m)) misfits.too_large so_far.too_large;
     unequal = λ none. same_first (IsUnequal traces) seen seen' (λ place m. back place (unequal_there place m)) misfits.unequal (so_far.unequal none);
     mismatch = λ none. same_first (IsMismatch traces) seen seen' (λ place m. back place (mismatch_there place m)) misfits.mismatch (so_far.mismatch none);
-  }
-
-  -- the start
-  pub progress_start : IsProgress traces (IsAmongFirst 0) (record { too_large = None; unequal = None; mismatch = None })
-  progress_start = record {
-    too_large = λ place sees b. omega (arith, sees);
-    unequal = λ none place sees b. omega (arith, sees);
-    mismatch = λ none place sees b. omega (arith, sees);
   }
 
   -- a round
@@ -278,9 +270,6 @@ module _ (traces : TraceLists) where
   module _ (from to : ℕ) where
     pub rows_begin : (rows : List (List (Option ℕ))) → AreRowsUpTo traces from rows → AreRowsBetween traces from to 0 rows
     rows_begin rows so_far = record { threads = so_far.threads; done = λ t below. absurd (omega arith); ahead = λ t over there. so_far.each t there }
-
-    pub rows_end : (threads : ℕ) (rows : List (List (Option ℕ))) → threads ≡ length traces.events → AreRowsBetween traces from to threads rows → AreRowsUpTo traces to rows
-    rows_end threads rows all so_far = record { threads = so_far.threads; each = λ t there. so_far.done t (omega (arith, all, there)) }
 
     pub rows_on : (t : ℕ) (rows : List (List (Option ℕ))) (row : List (Option ℕ)) → t < length traces.events → AreRowsBetween traces from to t rows → IsRowUpTo traces t (first_events traces to t) row → AreRowsBetween traces from to (t + 1) (set rows t row)
     rows_on t rows row there so_far here =

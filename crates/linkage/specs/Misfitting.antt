@@ -53,7 +53,7 @@ abbrev pub IsFirstOf : (Place → Type 0) → (Place → Type 0) → Option Plac
 IsFirstOf misfit seen None = (place : Place) → seen place → misfit place → ⊥
 IsFirstOf misfit seen (Some found) = misfit found × ((place : Place) → seen place → IsBefore place found → misfit place → ⊥)
 
--- the first misfits of the seen places; the other kinds are told only where no bound is too large
+-- the first misfits of the seen places; those of the other kinds count only where no bound is too large
 pub record IsProgress (traces : TraceLists) (seen : Place → Type 0) (misfits : Misfits) : Type 0 where
   pub too_large : IsFirstOf (IsBoundTooLarge traces) seen misfits.too_large
   pub unequal : misfits.too_large ≡ None → IsFirstOf (IsUnequal traces) seen misfits.unequal

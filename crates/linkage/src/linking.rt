@@ -118,7 +118,16 @@ fn link_all<L: Ledger>(
     let mut from = 0;
     while from < longest {
         let to = from + ROUND;
-        link_round(alloc, traces, from, to, finder, &mut rows, &mut misfits, steps)?;
+        link_round(
+            alloc,
+            traces,
+            from,
+            to,
+            finder,
+            &mut rows,
+            &mut misfits,
+            steps,
+        )?;
         from = to;
     }
     misfits.told()?;

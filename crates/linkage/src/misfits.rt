@@ -21,14 +21,8 @@ fn earlier(known: Option<Place>, at: Place) -> Place
     ensures { IsEarlierOf known at result }
 {
     match known {
-        Some(place) => {
-            if at.thread < place.thread || at.thread == place.thread && at.place < place.place {
-                at
-            } else {
-                place
-            }
-        }
-        None => at,
+        Some(place) if (place.thread, place.place) < (at.thread, at.place) => place,
+        _ => at,
     }
 }
 

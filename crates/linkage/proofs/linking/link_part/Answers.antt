@@ -1,10 +1,8 @@
-use Rattle.std.proofs.Common.{◌≡◌, ◌∙◌, ◌≤◌, ap, sym, arith}
+use Rattle.std.proofs.Common.{◌≡◌, ◌∙◌, ap, sym, arith}
 use Rattle.std.specs.Prelude.{Some}
 use Rattle.std.proofs.lemmas.Option.{slice_get-get_or}
 use Rattle.interleavings.specs.TraceLists.{events_of}
-use Rattle.linkage.specs.GatherShows.{place_at}
 use Rattle.linkage.specs.Rounds.{first_events}
-use Rattle.linkage.specs.Sources.{event_at}
 use Rattle.linkage.proofs.Progress.{part_begins, part_ends, progress_step, link_here, row_step, row_up_to}
 use Rattle.linkage.proofs.linking.link_part.Goals as goal
 
