@@ -1,11 +1,11 @@
 -- Events have links, or something is refused first.
 use Rattle.std.proofs.Common.{List, Option, None, length, refl, inl, inr, ℕ}
 use Rattle.interleavings.specs.TraceLists.{TraceLists}
+use Rattle.interleavings.specs.declared.traces.Place.{Place}
 use Rattle.linkage.specs.declared.link_error.LinkError.{LinkError}
 use Rattle.linkage.specs.declared.link_error.LinkError.TheVariants.{BoundTooLarge, NoEqualWrite, UpdateMismatch}
 use Rattle.linkage.specs.declared.misfits.Misfits.{Misfits}
 use Rattle.linkage.specs.Answers.{IsWhole}
-use Rattle.linkage.specs.GatherShows.{place_at}
 use Rattle.linkage.specs.Laws.{LinksOrRefusal}
 use Rattle.linkage.specs.Misfitting.{IsProgress}
 use Rattle.linkage.specs.Refusals.{IsRefused}
@@ -17,21 +17,24 @@ use Rattle.linkage.proofs.ThereLinks.{rows_there}
 module _ (traces : TraceLists) (none : (refusal : LinkError) → IsRefused traces refusal → ⊥) where
   -- no misfits
   abbrev no_misfits : Misfits
-  no_misfits = record { unequal = None; mismatch = None }
+  no_misfits = record { too_large = None; unequal = None; mismatch = None }
+
+  abbrev anywhere : Place → Type 0
+  anywhere place = Unit {0}
 
   -- where nothing is refused, no event misfits
-  all_fit : IsProgress traces (place_at (length traces.events) 0) no_misfits
+  all_fit : IsProgress traces anywhere no_misfits
   all_fit = record {
-    fit = λ place before. none (BoundTooLarge place);
-    unequal = λ place before. none (NoEqualWrite place);
-    mismatch = λ place before. none (UpdateMismatch place);
+    too_large = λ place seen. none (BoundTooLarge place);
+    unequal = λ fit place seen. none (NoEqualWrite place);
+    mismatch = λ fit place seen. none (UpdateMismatch place);
   }
 
   -- and there are links
   whole : (links : List (List (Option ℕ))) × IsWhole traces links
   whole =
       let rows = rows_there traces (length traces.events) in
-      (rows.0, whole_end traces (length traces.events) no_misfits refl all_fit (λ refusal refused. absurd (none refusal refused)) rows.0 None None rows.1 all_fit.unequal all_fit.mismatch refl)
+      (rows.0, whole_end traces anywhere (λ place there. tt) (λ refusal refused. absurd (none refusal refused)) no_misfits all_fit rows.0 rows.1 refl)
 
 -- events have links, or something is refused first
 pub links_or_refusal : LinksOrRefusal

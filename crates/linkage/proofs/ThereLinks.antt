@@ -31,13 +31,13 @@ module _ (traces : TraceLists) where
           | inl linked ↦ (
             Some linked.0,
             record {
-              read = λ cell value bound reads. inr (linked.0, refl, same_reading traces (λ c v b. IsLink traces c v b linked.0) at found.0 found.1 found.2 cell value bound here reads linked.1);
+              read = λ cell value bound reads. inr (inr (linked.0, refl, same_reading traces (λ c v b. IsLink traces c v b linked.0) at found.0 found.1 found.2 cell value bound here reads linked.1));
               unread = λ unread. absurd (let is : Some found.2 ≡ None = sym here.within ∙ unread in cc);
             },
           )
           | inr none ↦
               let unequal : IsUnequal traces at = record { cell = found.0; value = found.1; bound = found.2; reads = here; none = none } in
-              (None, record { read = λ cell value bound reads. inl unequal; unread = λ unread. refl })
+              (None, record { read = λ cell value bound reads. inr (inl unequal); unread = λ unread. refl })
         ]
   ]
 

@@ -1,7 +1,7 @@
 -- What contracts see of linking event by event.
-use Rattle.std.specs.Prelude.{◌≡◌, ℕ, ◌+◌, ◌<◌, ◌⊎◌, List, [], Bool, true, false, Option, Some, None, Result, Ok, Err, length}
+use Rattle.std.specs.Prelude.{◌≡◌, ℕ, ◌+◌, ◌<◌, ◌≤◌, ◌⊎◌, List, [], Bool, true, false, Option, Some, None, Result, Ok, Err, length}
 use Rattle.std.specs.List.{slice_index_or}
-use Rattle.std.specs.Option.{option_and_then, option_or}
+use Rattle.std.specs.Option.{option_and_then}
 use Rattle.interleavings.specs.declared.traces.Place.{Place}
 use Rattle.interleavings.specs.Events.{bound_of}
 use Rattle.interleavings.specs.TraceLists.{TraceLists, events_of}
@@ -13,6 +13,7 @@ use Rattle.linkage.specs.declared.misfits.Misfits.{Misfits}
 use Rattle.linkage.specs.GatherShows.{IsBefore, place_at}
 use Rattle.linkage.specs.Links.{IsLink}
 use Rattle.linkage.specs.Refusals.{IsBoundTooLarge, IsUnequal, IsMismatch}
+use Rattle.linkage.specs.Rounds.{first_events}
 use Rattle.linkage.specs.Sources.{event_at, Stored, IsReadAt}
 
 -- whether the write numbered one below the number stored the old value
@@ -32,11 +33,12 @@ pub record IsLinkedAt (traces : TraceLists) (place : Place) (number : ℕ) : Typ
 abbrev pub IsUnread : TraceLists → Place → Type 0
 IsUnread traces place = option_and_then bound_of (event_at traces place) ≡ None
 
--- what is told of these two misfits
-abbrev pub told_by : Option Place → Option Place → Result (Unit {0}) LinkError
-told_by (Some place) mismatch = Err (NoEqualWrite place)
-told_by None (Some place) = Err (UpdateMismatch place)
-told_by None None = Ok tt
+-- what is told of these three misfits
+abbrev pub told_by : Option Place → Option Place → Option Place → Result (Unit {0}) LinkError
+told_by (Some place) unequal mismatch = Err (BoundTooLarge place)
+told_by None (Some place) mismatch = Err (NoEqualWrite place)
+told_by None None (Some place) = Err (UpdateMismatch place)
+told_by None None None = Ok tt
 
 -- what was found at the place is so, and of the misfits none that is not told
 abbrev pub IsFinding : TraceLists → Place → Finding → Type 0
@@ -46,28 +48,37 @@ IsFinding traces place TooLarge = IsBoundTooLarge traces place
 IsFinding traces place Unequal = IsUnequal traces place × (IsBoundTooLarge traces place → ⊥) × (IsMismatch traces place → ⊥)
 IsFinding traces place Mismatch = IsMismatch traces place × (IsBoundTooLarge traces place → ⊥) × (IsUnequal traces place → ⊥) × IsUnread traces place
 
--- the first place before this one that is such a misfit, if one was found
-abbrev pub IsFirstBefore : (Place → Type 0) → Place → Option Place → Type 0
-IsFirstBefore misfit frontier None = (place : Place) → IsBefore place frontier → misfit place → ⊥
-IsFirstBefore misfit frontier (Some found) = misfit found × ((place : Place) → IsBefore place found → misfit place → ⊥)
+-- the first of the seen places that is such a misfit, if one is
+abbrev pub IsFirstOf : (Place → Type 0) → (Place → Type 0) → Option Place → Type 0
+IsFirstOf misfit seen None = (place : Place) → seen place → misfit place → ⊥
+IsFirstOf misfit seen (Some found) = misfit found × ((place : Place) → seen place → IsBefore place found → misfit place → ⊥)
 
--- before this place no bound is too large, and these are the first of the other misfits
-pub record IsProgress (traces : TraceLists) (frontier : Place) (misfits : Misfits) : Type 0 where
-  pub fit : (place : Place) → IsBefore place frontier → IsBoundTooLarge traces place → ⊥
-  pub unequal : IsFirstBefore (IsUnequal traces) frontier misfits.unequal
-  pub mismatch : IsFirstBefore (IsMismatch traces) frontier misfits.mismatch
+-- the first misfits of the seen places; those of the other kinds count only where no bound is too large
+pub record IsProgress (traces : TraceLists) (seen : Place → Type 0) (misfits : Misfits) : Type 0 where
+  pub too_large : IsFirstOf (IsBoundTooLarge traces) seen misfits.too_large
+  pub unequal : misfits.too_large ≡ None → IsFirstOf (IsUnequal traces) seen misfits.unequal
+  pub mismatch : misfits.too_large ≡ None → IsFirstOf (IsMismatch traces) seen misfits.mismatch
+
+-- of the known place and this one, the one that is not after the other
+abbrev pub IsEarlierOf : Option Place → Place → Place → Type 0
+IsEarlierOf None place earlier = earlier ≡ place
+IsEarlierOf (Some known) place earlier = ((earlier ≡ known) × (IsBefore place known → ⊥)) ⊎ ((earlier ≡ place) × IsBefore place known)
+
+-- the earlier place is kept
+abbrev pub IsKept : Option Place → Place → Option Place → Type 0
+IsKept known place kept = (earlier : Place) × (kept ≡ Some earlier) × IsEarlierOf known place earlier
 
 -- what is kept of a finding, and the link
-abbrev pub IsNoted : Misfits → Place → Finding → Misfits → Result (Option ℕ) LinkError → Type 0
-IsNoted old place (Linked number) new result = (new ≡ old) × (result ≡ Ok (Some number))
-IsNoted old place Unlinked new result = (new ≡ old) × (result ≡ Ok None)
-IsNoted old place TooLarge new result = result ≡ Err (BoundTooLarge place)
-IsNoted old place Unequal new result = (new ≡ record { unequal = option_or old.unequal (Some place); mismatch = old.mismatch }) × (result ≡ Ok None)
-IsNoted old place Mismatch new result = (new ≡ record { unequal = old.unequal; mismatch = option_or old.mismatch (Some place) }) × (result ≡ Ok None)
+abbrev pub IsNoted : Misfits → Place → Finding → Misfits → Option ℕ → Type 0
+IsNoted old place (Linked number) new link = (new ≡ old) × (link ≡ Some number)
+IsNoted old place Unlinked new link = (new ≡ old) × (link ≡ None)
+IsNoted old place TooLarge new link = IsKept old.too_large place new.too_large × (new.unequal ≡ old.unequal) × (new.mismatch ≡ old.mismatch) × (link ≡ None)
+IsNoted old place Unequal new link = (new.too_large ≡ old.too_large) × IsKept old.unequal place new.unequal × (new.mismatch ≡ old.mismatch) × (link ≡ None)
+IsNoted old place Mismatch new link = (new.too_large ≡ old.too_large) × (new.unequal ≡ old.unequal) × IsKept old.mismatch place new.mismatch × (link ≡ None)
 
--- the link of a place, unless no equal write is within the bound of its read
+-- the link of a place, unless the bound of its read is too large or no equal write is within it
 pub record IsLinkAt (traces : TraceLists) (place : Place) (link : Option ℕ) : Type 0 where
-  pub read : (cell value bound : ℕ) → IsReadAt traces place cell value bound → IsUnequal traces place ⊎ ((number : ℕ) × (link ≡ Some number) × IsLink traces cell value bound number)
+  pub read : (cell value bound : ℕ) → IsReadAt traces place cell value bound → IsBoundTooLarge traces place ⊎ (IsUnequal traces place ⊎ ((number : ℕ) × (link ≡ Some number) × IsLink traces cell value bound number))
   pub unread : IsUnread traces place → link ≡ None
 
 -- the links of the first events of a thread
@@ -84,6 +95,21 @@ pub record AreRowsLinked (traces : TraceLists) (threads : ℕ) (rows : List (Lis
   pub count : length rows ≡ threads
   pub each : (thread : ℕ) → thread < threads → IsRowLinked traces thread (slice_index_or rows thread [])
 
--- the first misfit that was kept is told, the unequal reads before the mismatches
+-- the links of the first events of each thread, so many of each
+pub record AreRowsUpTo (traces : TraceLists) (count : ℕ) (rows : List (List (Option ℕ))) : Type 0 where
+  pub threads : length rows ≡ length traces.events
+  pub each : (thread : ℕ) → thread < length traces.events → IsRowUpTo traces thread (first_events traces count thread) (slice_index_or rows thread [])
+
+-- in a round the links of the threads before this one go up to the end of the round, and those of the others up to its start
+pub record AreRowsBetween (traces : TraceLists) (from to thread : ℕ) (rows : List (List (Option ℕ))) : Type 0 where
+  pub threads : length rows ≡ length traces.events
+  pub done : (t : ℕ) → t < thread → IsRowUpTo traces t (first_events traces to t) (slice_index_or rows t [])
+  pub ahead : (t : ℕ) → thread ≤ t → t < length traces.events → IsRowUpTo traces t (first_events traces from t) (slice_index_or rows t [])
+
+-- the place is among so many first ones of its thread
+abbrev pub IsAmongFirst : ℕ → Place → Type 0
+IsAmongFirst count place = place.place < count
+
+-- the first misfit that was kept is told: bounds that are too large before the unequal reads, and these before the mismatches
 abbrev pub told_of : Misfits → Result (Unit {0}) LinkError
-told_of misfits = told_by misfits.unequal misfits.mismatch
+told_of misfits = told_by misfits.too_large misfits.unequal misfits.mismatch

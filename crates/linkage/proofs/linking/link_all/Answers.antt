@@ -1,36 +1,37 @@
-use Rattle.std.proofs.Common.{◌≡◌, map, length, [], arith}
-use Rattle.std.proofs.lemmas.List.{map-append}
-use Rattle.std.proofs.lemmas.List.Sums.{sum_by_more, sum_by_more_le}
-use Rattle.linkage.proofs.Progress.{rows_step, whole_end}
+use Rattle.std.proofs.Common.{ℕ, ◌+◌, ◌≤◌, length, map, arith}
+use Rattle.std.proofs.lemmas.Result.{err_from_is_err_and}
+use Rattle.interleavings.specs.TraceLists.{events_of}
+use Rattle.linkage.specs.Misfitting.{IsAmongFirst}
+use Rattle.linkage.proofs.Progress.{rows_all, told_end, whole_end}
+use Rattle.linkage.proofs.Reaching.{gone_most}
 use Rattle.linkage.proofs.linking.link_all.Goals as goal
 
-pub returns-in_err-link_thread-clause-looks : goal.returns-in_err-link_thread-clause-looks
-returns-in_err-link_thread-clause-looks g c =
-    let sum = sum_by_more_le length c.args.traces.now.events c.loop-thread.thread [] (omega (arith, c.loop-thread-test.true, c.threads-thread-end.ensures.count)) in
-    omega (arith, sum, c.link_thread.ensures.looks, c.loop-thread.invariant.looks)
+pub returns-in_err-link_round-clause-looks : goal.returns-in_err-link_round-clause-looks
+returns-in_err-link_round-clause-looks g c =
+    let to = c.loop-from.from + 1024 in
+    omega (arith, gone_most c.args.traces.now to to 0, c.link_round.ensures.looks, c.loop-from.invariant.looks)
 
-pub returns-in_err-push-clause-looks : goal.returns-in_err-push-clause-looks
-returns-in_err-push-clause-looks g c =
-    let sum = sum_by_more_le length c.args.traces.now.events c.loop-thread.thread [] (omega (arith, c.loop-thread-test.true, c.threads-thread-end.ensures.count)) in
-    omega (arith, sum, c.link_thread.ensures.looks, c.loop-thread.invariant.looks)
+pub returns-in_err-told-clause-answer : goal.returns-in_err-told-clause-answer
+returns-in_err-told-clause-answer g c =
+    let error = err_from_is_err_and c.from_residual-in_err-told.result c.from_residual-in_err-told.ensures.1 in
+    let from = c.loop-from.from in
+    let most : (t : ℕ) → length (events_of c.args.traces.now t) ≤ from = λ t. omega (arith, c.loop-from-test.false, c.longest-longest.ensures.longest t) in
+    rw (error.1, error.2) (told_end c.args.traces.now (IsAmongFirst from) (λ place there. omega (arith, there.0, most place.thread)) c.requires.numbers c.loop-from.misfits c.loop-from.invariant.progress c.in_err-told.field-0.0 c.in_err-told.ensures)
 
-pub loop-thread-preserved : goal.loop-thread-preserved
-loop-thread-preserved g c =
-    let t = c.loop-thread.thread in
-    let sum = sum_by_more length c.args.traces.now.events t [] (omega (arith, c.loop-thread-test.true, c.threads-thread-end.ensures.count)) in
-    record {
-      finder = c.in_ok-link_thread.ensures.finder;
-      progress = c.in_ok-link_thread.ensures.progress;
-      rows =
-          rw (c.in_ok-push.ensures.items, map-append)
-          (rows_step c.args.traces.now t (map (λ row. row.items) c.loop-thread.rows.items) c.in_ok-link_thread.field-0.items c.loop-thread.invariant.rows c.in_ok-link_thread.ensures.row);
-      looks = omega (arith, sum, c.link_thread.ensures.looks, c.loop-thread.invariant.looks);
-    }
+pub returns-in_err-told-clause-looks : goal.returns-in_err-told-clause-looks
+returns-in_err-told-clause-looks g c =
+    let from = c.loop-from.from in
+    omega (arith, gone_most c.args.traces.now from from 0, c.loop-from.invariant.looks)
 
 pub returns-clause-answer : goal.returns-clause-answer
 returns-clause-answer g c =
     let traces = c.args.traces.now in
-    let t = c.loop-thread.thread in
-    let all : t ≡ length traces.events = omega (arith, c.loop-thread-test.false, c.threads-thread-end.ensures.count) in
-    let progress = c.loop-thread.invariant.progress in
-    whole_end traces t c.loop-thread.misfits all progress c.requires.numbers (map (λ row. row.items) c.loop-thread.rows.items) c.loop-thread.misfits.unequal c.loop-thread.misfits.mismatch c.loop-thread.invariant.rows progress.unequal progress.mismatch c.in_ok-told.ensures
+    let from = c.loop-from.from in
+    let rows = map (λ row. row.items) c.loop-from.rows.items in
+    let most : (t : ℕ) → length (events_of traces t) ≤ from = λ t. omega (arith, c.loop-from-test.false, c.longest-longest.ensures.longest t) in
+    whole_end traces (IsAmongFirst from) (λ place there. omega (arith, there.0, most place.thread)) c.requires.numbers c.loop-from.misfits c.loop-from.invariant.progress rows (rows_all traces from rows most c.loop-from.invariant.rows) c.in_ok-told.ensures
+
+pub returns-clause-looks : goal.returns-clause-looks
+returns-clause-looks g c =
+    let from = c.loop-from.from in
+    omega (arith, gone_most c.args.traces.now from from 0, c.loop-from.invariant.looks)
