@@ -3,6 +3,7 @@ ghost use Rattle.std.specs.Prelude.{◌≡◌, ℕ, ◌+◌, ◌*◌, ◌<◌, �
 ghost use Rattle.interleavings.specs.TraceLists.{events_of, IsTraces};
 ghost use Rattle.linkage.specs.Sources.{event_count};
 ghost use Rattle.event_order.specs.Deeds.{deed_at, deeds_of, gives_at, size, AreRowsOf, IsFit, IsRowOf};
+ghost use Rattle.event_order.specs.Sums.{upto};
 
 use crate::deed::Deed;
 use crate::slot::Slot;
@@ -133,10 +134,12 @@ impl Deeds {
     }
 
     /// How many events there are.
-    pub(crate) fn total(&self) -> usize {
+    pub(crate) fn total(&self) -> usize
+        ensures { result ≡ upto (size self.now) (length self.now) }
+    {
         let mut total: usize = 0;
-        for row in &self.rows {
-            total = total.saturating_add(row.len());
+        for thread in 0..self.threads() {
+            total += self.count(thread) as usize;
         }
         total
     }
