@@ -1,5 +1,5 @@
 //! `Table`: what is kept for slots. `Counts`: how often slots are counted.
-ghost use Rattle.std.specs.Prelude.{◌≡◌, ℕ, ◌+◌, ◌<◌, ◌≤◌, [], length, slice_index, slice_index_or, IfOk, IsTrue, OnOk, Some as Found};
+ghost use Rattle.std.specs.Prelude.{◌≡◌, ℕ, ◌+◌, ◌<◌, ◌≤◌, ◌↔◌, [], length, slice_index, slice_index_or, IfOk, IsTrue, OnOk, Some as Found};
 ghost use Rattle.event_order.specs.Tables.{counted, entry, is_given, rows_of, HasNumber, IsPut};
 ghost use Rattle.event_order.specs.declared.slot.Slot.{Slot};
 
@@ -112,7 +112,7 @@ impl Counts {
     }
 
     fn has_number(&self, slot: Slot) -> bool
-        ensures { IsTrue result → HasNumber (rows_of self.now.rows.items) slot }
+        ensures { IsTrue result ↔ HasNumber (rows_of self.now.rows.items) slot }
     {
         match self.rows.get(slot.row as usize) {
             Some(row) => (slot.number as usize) < row.len(),
