@@ -4,7 +4,7 @@ use Rattle.std.specs.Prelude.{Vec, replicate}
 use Rattle.std.specs.Vec.{with_item}
 use Rattle.std.proofs.lemmas.Bool.{true≢false, cases_eq, cases_lt, ne_eqb}
 use Rattle.std.proofs.lemmas.List.{get_or_append_left, get_or_past, get_or_push, get_or_read, length_push, get_or-map, map-set, get_or-set_same, get_or-set_other, length-map}
-use Rattle.event_order.specs.Tables.{counted, is_given, rows_of, same_slot}
+use Rattle.event_order.specs.Tables.{counted, is_given, rows_of, same_slot, HasNumber}
 use Rattle.event_order.specs.declared.slot.Slot.{Slot}
 
 -- one more of what is read past the end changes nothing
@@ -128,6 +128,43 @@ module _ {Z : Type 0} (rows : List (Vec ℕ Z)) (slot : Slot) (some : 0 < counte
         let same : (i : ℕ) → get_or row.items i 0 ≡ get_or (get_or (rows_of rows) slot.row []) i 0 = λ i. ap (λ r. get_or r i 0) (sym count_row) in
         let less : count - 1 + 1 ≡ counted (rows_of rows) slot = (let read = count_read count is in let above = some in omega arith) in
         count_lowered (rows_of rows) slot row.items (count - 1) there count_within same less other ∙ ap (λ t. counted t other + is_given (Some slot) other) (sym written)
+
+-- a longer row with the same counts, in place of that row
+module _ {Z : Type 0} (rows : List (Vec ℕ Z)) (slot : Slot) (row grown : Vec ℕ Z) (there : slot.row < length rows) (read : row ≡ get_or rows slot.row row) where
+  pub grown_row : get_or (rows_of (set rows slot.row grown)) slot.row [] ≡ grown.items
+  grown_row = ap (λ all. get_or all slot.row []) (map-set (λ r. r.items) rows slot.row grown) ∙ get_or-set_same (rows_of rows) slot.row grown.items [] (simp length-map there)
+
+  pub grown_same : ((i : ℕ) → get_or grown.items i 0 ≡ get_or row.items i 0) → (at : Slot) → counted (rows_of (set rows slot.row grown)) at ≡ counted (rows_of rows) at
+  grown_same same at = elim (cases_eq at.row slot.row) [
+    | inl here ↦
+        ap (λ n. get_or (get_or (rows_of (set rows slot.row grown)) n []) at.number 0) here
+        ∙ (ap (λ numbers. get_or numbers at.number 0) grown_row
+        ∙ (same at.number
+        ∙ (ap (λ numbers. get_or numbers at.number 0) (sym (get_or-map (λ r. r.items) rows slot.row row [] there ∙ ap (λ r. r.items) (sym read)))
+        ∙ ap (λ n. get_or (get_or (rows_of rows) n []) at.number 0) (sym here))))
+    | inr apart ↦
+        ap (λ all. get_or (get_or all at.row []) at.number 0) (map-set (λ r. r.items) rows slot.row grown)
+        ∙ ap (λ numbers. get_or numbers at.number 0) (get_or-set_other (rows_of rows) slot.row at.row grown.items [] apart)
+  ]
+
+-- where there is a number for the slot
+module _ {Z : Type 0} (rows : List (Vec ℕ Z)) (slot : Slot) (has : HasNumber (rows_of rows) slot) where
+  pub number_row : slot.row < length rows
+  number_row = elim (cases_lt slot.row (length rows)) [
+    | inl there ↦ there
+    | inr past ↦ absurd (
+        let past_all : length (rows_of rows) ≤ slot.row = simp length-map past in
+        let none : length (get_or (rows_of rows) slot.row []) ≡ 0 = ap length (get_or_past (rows_of rows) slot.row [] past_all) in
+        let some = has in
+        omega arith)
+  ]
+
+  pub number_within : (row : Vec ℕ Z) → row ≡ get_or rows slot.row row → slot.number < length row.items
+  number_within row read =
+      let here : get_or (rows_of rows) slot.row [] ≡ row.items = get_or-map (λ r. r.items) rows slot.row row [] number_row ∙ ap (λ r. r.items) (sym read) in
+      let same = ap length here in
+      let some = has in
+      omega arith
 
 -- one more where the row has room by now
 pub count_added : {Z : Type 0} (rows : List (Vec ℕ Z)) (slot : Slot) (row grown : Vec ℕ Z) (count : ℕ) → slot.row < length rows → row ≡ get_or rows slot.row row → slot.number < length grown.items → ((i : ℕ) → get_or grown.items i 0 ≡ get_or row.items i 0) → count ≡ get_or grown.items slot.number count → (count ≡ counted (rows_of rows) slot) × ((other : Slot) → counted (rows_of (set rows slot.row (with_item grown slot.number (count + 1)))) other ≡ counted (rows_of rows) other + is_given (Some slot) other)

@@ -1,12 +1,13 @@
 -- For which slots deeds wait, as one deed more stands.
-use Rattle.std.proofs.Common.{◌≡◌, ◌≢◌, ℕ, ◌+◌, ◌*◌, ◌<◌, ◌≤◌, true, false, List, [], Option, Some, None, length, refl, sym, ◌∙◌, ap, inl, inr, arith, add-one}
-use Rattle.std.specs.Prelude.{ltb, min, option_and_then, slice_set}
+use Rattle.std.proofs.Common.{◌≡◌, ◌≢◌, ℕ, ◌+◌, ◌-◌, ◌*◌, ◌<◌, ◌≤◌, true, false, List, [], Option, Some, None, length, get_or, drop, refl, sym, ◌∙◌, ap, inl, inr, arith, add-one, length-drop}
+use Rattle.std.specs.Prelude.{ltb, min, option_and_then, slice_range, slice_set}
 use Rattle.std.proofs.Math.Nat.{min-eq_right, min-le_right, zero-min}
 use Rattle.std.proofs.lemmas.Bool.{cases_eq, cases_lt, le-ltb, lt-ltb}
-use Rattle.std.proofs.lemmas.List.{get_or_past, get_or-set_same, get_or-set_other, length-set}
+use Rattle.std.proofs.lemmas.List.{get_or_past, get_or-take, get_or-drop, get_or-set_same, get_or-set_other, length-set, length-take}
+use Rattle.std.proofs.lemmas.Option.{slice_get-get_or}
 use Rattle.interleavings.specs.declared.traces.Place.{Place}
 use Rattle.event_order.specs.Backs.{Gives}
-use Rattle.event_order.specs.Deeds.{deed_at, gives_at, gives_of, size}
+use Rattle.event_order.specs.Deeds.{deed_at, deeds_of, gives_at, gives_of, size}
 use Rattle.event_order.specs.Fronts.{IsFront, IsRaised, awaited, awaited_of, done_of, none_done, tallied, waiting}
 use Rattle.event_order.specs.Sums.{upto}
 use Rattle.event_order.specs.Tables.{is_given, same_slot}
@@ -18,6 +19,10 @@ use Rattle.event_order.proofs.Sums.{upto_most, upto_one, upto_same, upto_some, u
 -- one term more
 pub upto_more : (f : ℕ → ℕ) (n : ℕ) → upto f (n + 1) ≡ upto f n + f n
 upto_more f n = rw add-one refl
+
+-- how long a part of a list is
+pub part_length : {X : Type 0} (xs : List X) (from to : ℕ) → length (slice_range xs from to) ≡ min (to - from) (length xs - from)
+part_length xs from to = length-take (to - from) (drop from xs) ∙ ap (min (to - from)) (length-drop from xs)
 
 -- a slot is the one that it is
 pub given_same : (slot : Slot) → is_given (Some slot) slot ≡ 1
@@ -94,6 +99,35 @@ module _ (rows : List (List Deed)) where
   -- before a place behind the last of each thread there are all
   pub tallied_all : (place : ℕ) (slot : Slot) → ((thread : ℕ) → size rows thread ≤ place) → upto (tallied rows place slot) (length rows) ≡ waiting rows none_done slot
   tallied_all place slot past = upto_same (tallied rows place slot) (awaited_of rows none_done slot) (length rows) (λ thread below. ap (upto (awaited rows none_done slot thread)) (min-eq_right (past thread)))
+
+  -- a part of the deeds of a thread
+  module _ (from to thread : ℕ) (part : List Deed) (is : part ≡ slice_range (deeds_of rows thread) from to) (slot : Slot) where
+    -- its length
+    part_count : length part ≡ min (to - from) (size rows thread - from)
+    part_count = ap length is ∙ part_length (deeds_of rows thread) from to
+
+    -- it counts up to its end
+    pub part_all : (i : ℕ) → from ≤ to → i ≡ length part → upto (awaited rows none_done slot thread) (min from (size rows thread) + i) ≡ tallied rows to slot thread
+    part_all i order all = let count = part_count in ap (upto (awaited rows none_done slot thread)) (omega arith)
+
+    -- it has no more deeds than the thread
+    pub part_few : (i : ℕ) → i ≤ length part → upto (awaited rows none_done slot thread) (min from (size rows thread) + i) ≤ size rows thread
+    part_few i small = let count = part_count in let few = awaited_few none_done slot thread (min from (size rows thread) + i) in omega arith
+
+    -- one deed more of it
+    pub part_more : (i : ℕ) (d : Deed) (given : Option Slot) → i < length part → given ≡ gives_of (get_or part i d) → upto (awaited rows none_done slot thread) (min from (size rows thread) + (i + 1)) ≡ upto (awaited rows none_done slot thread) (min from (size rows thread) + i) + is_given given slot
+    part_more i d given small gives =
+        let row = deeds_of rows thread in
+        let f = awaited rows none_done slot thread in
+        let start = min from (size rows thread) in
+        let count = part_count in
+        let place : min from (size rows thread) + i ≡ from + i = omega arith in
+        let read : get_or row (from + i) d ≡ get_or part i d = sym (ap (λ xs. get_or xs i d) is ∙ (get_or-take (to - from) (drop from row) i d (omega arith) ∙ get_or-drop from row i d)) in
+        let there = slice_get-get_or row (from + i) d (omega arith) ∙ ap Some read in
+        let last : f (start + i) ≡ is_given given slot = awaited_left none_done slot thread (start + i) (omega arith) ∙ ap (λ g. is_given g slot) (gives_there thread (start + i) (from + i) (get_or part i d) place there ∙ sym gives) in
+        let more = upto_more f (start + i) in
+        let next : upto f (start + (i + 1)) ≡ upto f (start + i + 1) = ap (upto f) (omega arith) in
+        omega arith
 
   -- a thread with a deed is one of the threads
   pub thread_there : (thread i : ℕ) → i < size rows thread → thread < length rows

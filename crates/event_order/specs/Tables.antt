@@ -1,5 +1,5 @@
 -- What a table keeps for slots, and how often slots are counted.
-use Rattle.std.specs.Prelude.{◌≡◌, ℕ, ◌==◌, ◌&&◌, Bool, false, if◌then◌else◌, List, [], map, Option, Some, None}
+use Rattle.std.specs.Prelude.{◌≡◌, ℕ, ◌<◌, ◌==◌, ◌&&◌, Bool, false, if◌then◌else◌, List, [], length, map, Option, Some, None}
 use Rattle.std.specs.Prelude.{Vec, slice_index_or}
 use Rattle.event_order.specs.declared.slot.Slot.{Slot}
 
@@ -23,6 +23,10 @@ pub record IsPut {X : Type 0} (old : Slot → Option X) (slot : Slot) (value : X
 -- how often a slot is counted
 abbrev pub counted : List (List ℕ) → Slot → ℕ
 counted rows slot = slice_index_or (slice_index_or rows slot.row []) slot.number 0
+
+-- the rows have a number for the slot
+abbrev pub HasNumber : List (List ℕ) → Slot → Type 0
+HasNumber rows slot = slot.number < length (slice_index_or rows slot.row [])
 
 -- 1 where this slot is the one, or 0
 abbrev pub is_given : Option Slot → Slot → ℕ

@@ -1,8 +1,9 @@
 //! `Deeds`: what all events are to the order. Each event and its link are looked at once.
-ghost use Rattle.std.specs.Prelude.{◌≡◌, ℕ, ◌+◌, ◌*◌, ◌<◌, ◌≤◌, length, sum_by, IfOk};
+ghost use Rattle.std.specs.Prelude.{◌≡◌, ℕ, ◌+◌, ◌*◌, ◌<◌, ◌≤◌, length, slice_range, sum_by, IfOk};
 ghost use Rattle.interleavings.specs.TraceLists.{events_of, IsTraces};
 ghost use Rattle.linkage.specs.Sources.{event_count};
-ghost use Rattle.event_order.specs.Deeds.{deed_at, gives_at, size, AreRowsOf, IsFit, IsRowOf};
+ghost use Rattle.event_order.specs.Deeds.{deed_at, deeds_of, gives_at, size, AreRowsOf, IsFit, IsRowOf};
+ghost use Rattle.event_order.specs.Sums.{upto};
 
 use crate::deed::Deed;
 use crate::slot::Slot;
@@ -18,6 +19,8 @@ use stride_isa::limits::{FUEL_LIMIT, THREAD_LIMIT};
 #[derive(Drop)]
 pub(crate) struct Deeds {
     rows: Vec<Vec<Deed>>,
+    // How many numbers each row of slots needs room for, so that it does not grow while slots are counted.
+    room: Vec<u32>,
 }
 
 impl Model for Deeds {
@@ -34,12 +37,26 @@ impl Model for Deeds {
     ghost invariant = { λ deeds. (length deeds.rows.items ≤ thread_limit) × ((thread : ℕ) → count_of (rows_of deeds.rows.items) thread ≤ fuel_limit) };
 }
 
-// What the events of a thread are to the order.
+// How many rows of slots there can be: three for each number of an owner.
+const ROWS: usize = 768;
+
+// Widens the room of the slot's row up to the slot.
+#[inline(always)]
+fn widen(room: &mut [u32], slot: Option<Slot>) {
+    if let Some(slot) = slot {
+        if let Some(length) = room.get_mut(slot.row as usize) {
+            *length = slot.number.saturating_add(1).max(*length);
+        }
+    }
+}
+
+// What the events of a thread are to the order. The slots that they fill widen the room.
 fn row_of<L: Ledger>(
     alloc: Global,
     traces: &Traces,
     links: &Links,
     thread: u32,
+    room: &mut [u32],
     steps: &mut Steps<L>,
 ) -> Result<Vec<Deed>, NoMemory>
     requires thread { thread < length traces.now.events }
@@ -54,7 +71,9 @@ fn row_of<L: Ledger>(
     for place in 0..count {
         let event = traces.at(thread, place, steps);
         let link = links.of(Place { thread, place }, steps);
-        row.push(Deed::of(event, link))?;
+        let deed = Deed::of(event, link);
+        widen(room, deed.gives());
+        row.push(deed)?;
     }
     Ok(row)
 }
@@ -72,10 +91,11 @@ impl Deeds {
         ensures looks { steps.new ≤ steps.old + 2 * event_count traces.now }
     {
         let mut rows = Vec::new(alloc);
+        let mut room: Vec<u32> = vec![in alloc; 0; ROWS]?;
         for thread in 0..traces.threads() {
-            rows.push(row_of(alloc, traces, links, thread, steps)?)?;
+            rows.push(row_of(alloc, traces, links, thread, &mut room, steps)?)?;
         }
-        Ok(Deeds { rows })
+        Ok(Deeds { rows, room })
     }
 
     /// How many threads there are.
@@ -108,13 +128,32 @@ impl Deeds {
         longest
     }
 
+    /// How many numbers each row of slots needs room for, so that it does not grow while slots are counted.
+    pub(crate) fn room(&self) -> &[u32] {
+        &self.room
+    }
+
     /// How many events there are.
-    pub(crate) fn total(&self) -> usize {
+    pub(crate) fn total(&self) -> usize
+        ensures { result ≡ upto (size self.now) (length self.now) }
+    {
         let mut total: usize = 0;
-        for row in &self.rows {
-            total = total.saturating_add(row.len());
+        for thread in 0..self.threads() {
+            total += self.count(thread) as usize;
         }
         total
+    }
+
+    /// What the events of a thread from one place on, and before another, are to the order.
+    pub(crate) fn part(&self, thread: u32, from: u32, to: u32) -> &[Deed]
+        requires thread { thread < length self.now }
+        requires order { from ≤ to }
+        ensures part { result.now ≡ slice_range (deeds_of self.now thread) from to }
+        ensures few { size self.now thread ≤ FUEL_LIMIT }
+    {
+        let row = &self.rows[thread as usize];
+        let count = row.len() as u32;
+        &row[from.min(count) as usize..to.min(count) as usize]
     }
 
     /// What the event at a place is to the order, if one is there.

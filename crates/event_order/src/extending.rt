@@ -23,7 +23,7 @@ pub(crate) fn extend(alloc: Global, deeds: &Deeds) -> Result<Extended, NoMemory>
     order.reserve(deeds.total())?;
     while let Some(ready) = front.first_ready(deeds) {
         front.stand(deeds, ready);
-        order.push(ready.thread as u8)?;
+        order.push_spare(ready.thread as u8);
     }
     Ok(Extended {
         done: front.done,

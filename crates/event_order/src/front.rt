@@ -77,9 +77,8 @@ fn tally_thread(
     requires order { from ≤ to }
     ensures { OnOk result ((slot : Numbered) → counted (rows_of table.new.rows.items) slot + tallied deeds.now from slot thread ≡ counted (rows_of table.old.rows.items) slot + tallied deeds.now to slot thread) }
 {
-    let count = deeds.count(thread);
-    for place in from.min(count)..to.min(count) {
-        table.raise(alloc, deeds.gives(Place { thread, place }))?;
+    for deed in deeds.part(thread, from, to) {
+        table.raise(alloc, deed.gives())?;
     }
     Ok(())
 }
@@ -102,30 +101,12 @@ fn tally_burst(
     Ok(())
 }
 
-// How many rows of slots there can be: three for each number of an owner.
-const ROWS: usize = 768;
-
-// How many numbers the row of each slot has to have room for, so that it does not grow while slots are counted.
-fn row_lengths(alloc: Global, deeds: &Deeds) -> Result<Vec<u32>, NoMemory> {
-    let mut lengths: Vec<u32> = vec![in alloc; 0; ROWS]?;
-    for thread in 0..deeds.threads() {
-        for place in 0..deeds.count(thread) {
-            if let Some(slot) = deeds.gives(Place { thread, place }) {
-                if let Some(length) = lengths.get_mut(slot.row as usize) {
-                    *length = slot.number.saturating_add(1).max(*length);
-                }
-            }
-        }
-    }
-    Ok(lengths)
-}
-
 // Counts the slots that deeds fill.
 fn tally(alloc: Global, deeds: &Deeds) -> Result<Counts, NoMemory>
     ensures { IfOk result (λ table. (slot : Numbered) → counted (rows_of table.rows.items) slot ≡ waits_of deeds.now none_done slot) }
 {
     let longest = deeds.longest();
-    let mut table = Counts::with_room(alloc, &row_lengths(alloc, deeds)?)?;
+    let mut table = Counts::with_room(alloc, deeds.room())?;
     let mut from = 0;
     while from < longest {
         let to = from + BURST;

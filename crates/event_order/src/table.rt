@@ -1,6 +1,6 @@
 //! `Table`: what is kept for slots. `Counts`: how often slots are counted.
-ghost use Rattle.std.specs.Prelude.{◌≡◌, ℕ, ◌+◌, ◌<◌, ◌≤◌, [], length, slice_index, slice_index_or, IfOk, OnOk, Some as Found};
-ghost use Rattle.event_order.specs.Tables.{counted, entry, is_given, rows_of, IsPut};
+ghost use Rattle.std.specs.Prelude.{◌≡◌, ℕ, ◌+◌, ◌<◌, ◌≤◌, ◌↔◌, [], length, slice_index, slice_index_or, IfOk, IsTrue, OnOk, Some as Found};
+ghost use Rattle.event_order.specs.Tables.{counted, entry, is_given, rows_of, HasNumber, IsPut};
 ghost use Rattle.event_order.specs.declared.slot.Slot.{Slot};
 
 use crate::slot::Slot;
@@ -111,15 +111,47 @@ impl Counts {
         Ok(())
     }
 
+    fn has_number(&self, slot: Slot) -> bool
+        ensures { IsTrue result ↔ HasNumber (rows_of self.now.rows.items) slot }
+    {
+        match self.rows.get(slot.row as usize) {
+            Some(row) => (slot.number as usize) < row.len(),
+            None => false,
+        }
+    }
+
+    #[cold]
+    fn grow(&mut self, alloc: Global, slot: Slot) -> Result<(), NoMemory>
+        ensures there { OnOk result (HasNumber (rows_of self.new.rows.items) slot) }
+        ensures same { (at : Slot) → counted (rows_of self.new.rows.items) at ≡ counted (rows_of self.old.rows.items) at }
+    {
+        self.add_rows(alloc, slot.row)?;
+        let row = &mut self.rows[slot.row as usize];
+        Self::add_numbers(row, slot.number)?;
+        Ok(())
+    }
+
+    // Grows only where the number is not there yet. Mostly it is, by the room that was made at first.
+    #[inline(always)]
+    fn make_number(&mut self, alloc: Global, slot: Slot) -> Result<(), NoMemory>
+        ensures there { OnOk result (HasNumber (rows_of self.new.rows.items) slot) }
+        ensures same { (at : Slot) → counted (rows_of self.new.rows.items) at ≡ counted (rows_of self.old.rows.items) at }
+    {
+        if self.has_number(slot) {
+            Ok(())
+        } else {
+            self.grow(alloc, slot)
+        }
+    }
+
     /// Counts a slot once more, if there is one.
     pub(crate) fn raise(&mut self, alloc: Global, slot: Option<Slot>) -> Result<(), NoMemory>
         requires { (at : Slot) → slot ≡ Found at → counted (rows_of self.old.rows.items) at < u32.MAX }
         ensures { OnOk result ((at : Slot) → counted (rows_of self.new.rows.items) at ≡ counted (rows_of self.old.rows.items) at + is_given slot at) }
     {
         if let Some(slot) = slot {
-            self.add_rows(alloc, slot.row)?;
+            self.make_number(alloc, slot)?;
             let row = &mut self.rows[slot.row as usize];
-            Self::add_numbers(row, slot.number)?;
             let count = row[slot.number as usize] + 1;
             row[slot.number as usize] = count;
         }
