@@ -1,5 +1,5 @@
 -- What failed tries to claim leave as it was, and what a claim changes.
-use Rattle.std.proofs.Common.{◌≡◌, ◌≢◌, ℕ, ◌*◌, ◌/◌, ◌%◌, ◌∙◌, true, false, List, [], ◌∷◌, refl, sym, ap, subst, arith}
+use Rattle.std.proofs.Common.{◌≡◌, ◌≢◌, ℕ, ◌*◌, ◌/◌, ◌%◌, ◌∙◌, true, false, List, [], ◌∷◌, ◌++◌, refl, sym, ap, subst, arith}
 use Rattle.std.specs.Prelude.{IsSome, length, ◌<◌}
 use Rattle.std.proofs.lemmas.Bool.{eq-eqb, ne_eqb}
 use Rattle.interleavings.specs.declared.activity.Activity.{Activity}
@@ -12,7 +12,7 @@ use Rattle.shared_rule.specs.declared.view.View.{View}
 use Rattle.shared_rule.specs.Passes.{IsReady, IsSameBeside}
 use Rattle.shared_rule.specs.Plays.{Makes}
 use Rattle.shared_rule.specs.Views.{view_after}
-use Rattle.write_turns.specs.Claiming.{Try, Odd, Lost, AreTries, after_tries, Takes, HasClaimed}
+use Rattle.write_turns.specs.Claiming.{Try, Odd, Lost, AreTries, after_try, after_tries, Takes, HasClaimed}
 
 -- the activity in another phase
 abbrev in_phase : Activity → Phase → Activity
@@ -127,4 +127,23 @@ tried_ready cell before now ready tried = record {
   idle = ap (λ (a : Activity). a.phase) tried.activity ∙ ready.idle;
   named = subst (λ (a : Activity). IsSome a.name) (sym tried.activity) ready.named;
   room = subst (λ (a : Activity). length a.events < EVENT_LIMIT) (sym tried.activity) ready.room;
+}
+
+-- tries before others
+tries_joined : (cell : ℕ) (v : View) (late early : List Try) → after_tries cell v (late ++ early) ≡ after_tries cell (after_tries cell v early) late
+tries_joined cell v [] early = refl
+tries_joined cell v (t ∷ late) early = ap (λ w. after_try cell w t) (tries_joined cell v late early)
+
+failed_both : (late early : List Try) → AreTries late → AreTries early → AreTries (late ++ early)
+failed_both [] early none failed = failed
+failed_both (t ∷ late) early failed_late failed = (failed_late.0, failed_both late early failed_late.1 failed)
+
+-- a claim after tries
+pub takes_later : (cell n : ℕ) (before now next : View) → HasTried cell before now → Takes cell now n next → Takes cell before n next
+takes_later cell n before now next tried taken = record {
+  tries = taken.tries ++ tried.tries;
+  failed = failed_both taken.tries tried.tries taken.failed tried.failed;
+  view = taken.view
+      ∙ ap (λ v. view_after by.Claim cell 0 (view_after by.SeeNumber cell 0 v (2 * n)) (2 * n))
+      (ap (λ v. after_tries cell v taken.tries) tried.view ∙ sym (tries_joined cell before taken.tries tried.tries));
 }

@@ -51,31 +51,39 @@ pub fn take<R: Wait>(rt: &R, shared: &Shared, pass: &mut Pass, cell: u32) -> u32
     ensures claimed { HasClaimed cell result (view_of pass.old) (view_of pass.new) }
     ensures small { result + 1 < 2 ^ 31 }
 {
+    if let Some(seen) = see(shared, pass, cell) {
+        if try_claim(shared, pass, cell, seen) {
+            return seen;
+        }
+    }
+    wait_to_take(rt, shared, pass, cell)
+}
+
+// Sees and claims until it has a claim, after a first try that failed. Where another writer came first the next try may succeed
+// at once; where one is under way, it has to go on first.
+#[cold]
+#[inline(never)]
+fn wait_to_take<R: Wait>(rt: &R, shared: &Shared, pass: &mut Pass, cell: u32) -> u32
+    requires pass { IsPassOf shared.now pass.old }
+    requires cell { cell < length (starts_in shared.now) }
+    requires ready { IsReady (view_of pass.old) }
+    ensures pass { IsPassOf shared.now pass.new }
+    ensures steps { Takes cell (view_of pass.old) result (view_of pass.new) }
+    ensures claimed { HasClaimed cell result (view_of pass.old) (view_of pass.new) }
+    ensures small { result + 1 < 2 ^ 31 }
+{
     let backoff = Backoff::new();
+    backoff.spin();
     for _ in rt.forever() {
         match see(shared, pass, cell) {
             Some(seen) => {
                 if try_claim(shared, pass, cell, seen) {
                     return seen;
                 }
-                spin(&backoff);
+                backoff.spin();
             }
-            None => snooze(&backoff),
+            None => backoff.snooze(),
         }
     }
     unreachable!()
-}
-
-// Another writer came first, so the next try may succeed at once.
-#[cold]
-#[inline(never)]
-fn spin(backoff: &Backoff) {
-    backoff.spin();
-}
-
-// Another writer is under way, so it has to go on first.
-#[cold]
-#[inline(never)]
-fn snooze(backoff: &Backoff) {
-    backoff.snooze();
 }

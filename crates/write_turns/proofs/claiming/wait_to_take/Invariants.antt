@@ -1,6 +1,6 @@
 use Rattle.shared_rule.specs.Passes.{IsPassOf, view_of}
 use Rattle.write_turns.proofs.Tried.{HasTried}
-use Rattle.write_turns.proofs.claiming.take.Given as goal
+use Rattle.write_turns.proofs.claiming.wait_to_take.Given as goal
 
 abbrev pub invariant-loop : goal.invariant-loop
 invariant-loop g l = record {
