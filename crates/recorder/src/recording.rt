@@ -57,7 +57,7 @@ pub fn record_thread<R: Wait, G: Gate>(
         ..
     } = slot;
     let mut turns = [0; MONITOR_LIMIT];
-    for _ in rt.forever() {
+    'instructions: loop {
         match control.local(&mut frame, &mut out) {
             Stop::Read { cell } => {
                 let (value, bound) = read(rt, shared, pass, &way, cell);
@@ -92,5 +92,4 @@ pub fn record_thread<R: Wait, G: Gate>(
             Stop::Ended { end } => return Slot { log, out, end },
         }
     }
-    unreachable!()
 }
