@@ -1,13 +1,12 @@
 -- The loop over a schedule.
-use Rattle.std.proofs.Common.{◌≡◌, ◌≢◌, ℕ, zero, suc, ◌+◌, ◌-◌, ◌<◌, ◌≤◌, ◌∙◌, ◌++◌, inl, inr, Bool, true, false, cond, List, [], ◌∷◌, length, take, refl, sym, ap, slice_index, Some, None, append_assoc, append-nil, arith}
+use Rattle.std.proofs.Common.{◌≡◌, ◌≢◌, ℕ, zero, suc, ◌+◌, ◌-◌, ◌<◌, ◌≤◌, ◌∙◌, ◌++◌, inl, inr, false, List, [], ◌∷◌, length, take, refl, sym, ap, slice_index, append_assoc, append-nil, arith}
 use Rattle.std.specs.Prelude.{option_and_then}
 use Rattle.std.proofs.lemmas.Bool.Decides.{eqb_tells}
 use Rattle.std.proofs.lemmas.List.{replicate_more, take_more}
 use Rattle.std.proofs.Math.ListN.{replicate}
 use Rattle.sc_machine.specs.Laws.{RefusedAlongTurns, TurnsJoin}
-use Rattle.stride_isa.specs.Listing.{Listing}
 use Rattle.sc_machine.specs.Machine.{Machine, can}
-use Rattle.sc_machine.specs.Schedule.{turn, turns, ready}
+use Rattle.sc_machine.specs.Schedule.{turns, ready}
 use Rattle.replayer.specs.declared.table.Table.{Table}
 use Rattle.replayer.specs.Replays.{IsRefusedAt}
 use Rattle.replayer.specs.Schedules.{IsRow, PlayedTo}
@@ -16,39 +15,6 @@ use Rattle.replayer.specs.Tables.{IsTable, Shows, SameGame, TookTurns}
 pub nothing_played : (table : Table) → IsTable table → Shows table (ready table.program.now table.fuel) → PlayedTo table table []
 unfolding turns
 nothing_played table is shows = record { table = is; game = record { program = refl; fuel = refl }; machine = ready table.program.now table.fuel; reached = refl; shows = shows }
-
--- whether a thread can take its turn, by the program that the table began with
-can_there : (first here : Table) (t : ℕ) (m : Machine) (b : Bool) → SameGame first here → can here.program.now t m ≡ b → can first.program.now t m ≡ b
-can_there first here t m b game h = sym (ap (λ program. can program.now t m) game.program) ∙ h
-
-pub refused : RefusedAlongTurns → (first here : Table) (schedule : List ℕ) (place : ℕ) → place < length schedule → (inv : PlayedTo first here (take place schedule)) → can here.program.now (slice_index schedule place) inv.machine ≡ false → IsRefusedAt first.program.now first.fuel schedule place
-refused refuses first here schedule place lt inv off =
-    let stuck = can_there first here (slice_index schedule place) inv.machine false inv.game off in
-    let told = refuses first.program.now first.fuel schedule place inv.machine lt inv.reached stuck in
-    record { first = told.0; no_run = told.1 }
-
--- one more turn, of a thread that is enabled
-one_more_turn : TurnsJoin → (p : Listing) (fuel : ℕ) (ts : List ℕ) (t : ℕ) (m after : Machine) → turns p fuel ts m ≡ Some after → can p t after ≡ true → turns p fuel (ts ++ t ∷ []) m ≡ Some (turn p fuel t after)
-unfolding turns
-one_more_turn joins p fuel ts t m after made enabled =
-    joins p fuel ts (t ∷ []) m ∙ ap (λ o. option_and_then (turns p fuel (t ∷ [])) o) made
-    ∙ ap (λ b. cond b (Some (turn p fuel t after)) None) enabled
-
-pub one_more_played : TurnsJoin → (first here next : Table) (schedule : List ℕ) (place : ℕ) → place < length schedule → (inv : PlayedTo first here (take place schedule)) → IsTable next → SameGame here next → can here.program.now (slice_index schedule place) inv.machine ≡ true → Shows next (turn here.program.now here.fuel (slice_index schedule place) inv.machine) → PlayedTo first next (take (place + 1) schedule)
-one_more_played joins first here next schedule place lt inv is game on shows =
-    let t : ℕ = slice_index schedule place in
-    let may = can_there first here t inv.machine true inv.game on in
-    let begin : Machine = ready first.program.now first.fuel in
-    record {
-      table = is;
-      game = record { program = game.program ∙ inv.game.program; fuel = game.fuel ∙ inv.game.fuel };
-      machine = turn here.program.now here.fuel t inv.machine;
-      reached = ap (λ ts. turns first.program.now first.fuel ts begin) (take_more schedule place 0 lt)
-          ∙ one_more_turn joins first.program.now first.fuel (take place schedule) t begin inv.machine inv.reached may
-          ∙ sym (ap (λ program. Some (turn program.now first.fuel t inv.machine)) inv.game.program)
-          ∙ sym (ap (λ fuel. Some (turn here.program.now fuel t inv.machine)) inv.game.fuel);
-      shows = shows;
-    }
 
 -- members in a row that name the same thread, at the end of a front
 take_row : (xs : List ℕ) (place n t : ℕ) → place + n ≤ length xs → ((k : ℕ) → k < n → slice_index xs (place + k) ≡ t) → take (place + n) xs ≡ take place xs ++ replicate n t
@@ -85,9 +51,16 @@ row_played joins first here next schedule place end taken before within row inv 
       shows = took.shows;
     }
 
--- what is left of a row is one
-pub row_left : (schedule : List ℕ) (begin place end : ℕ) → begin ≤ place → IsRow schedule begin end → IsRow schedule place end
-row_left schedule begin place end later row k from lt = row k (omega (arith, from)) lt ∙ sym (row place later (omega (arith, from, lt)))
+-- the first of them that is not enabled
+pub row_refused : RefusedAlongTurns → TurnsJoin → (first here next : Table) (schedule : List ℕ) (place end taken : ℕ) → place ≤ end → end ≤ length schedule → IsRow schedule place end → (inv : PlayedTo first here (take place schedule)) → IsTable next → SameGame here next → TookTurns here next (slice_index schedule place) (end - place) taken inv.machine → place + taken < end → IsRefusedAt first.program.now first.fuel schedule (place + taken)
+unfolding row_played
+row_refused refuses joins first here next schedule place end taken before within row inv is game took short =
+    let rest = row_played joins first here next schedule place end taken before within row inv is game took in
+    let stuck : can first.program.now (slice_index schedule place) took.machine ≡ false =
+    sym (ap (λ program. can program.now (slice_index schedule place) took.machine) inv.game.program) ∙ took.refused (omega (arith, short)) in
+    let same = row (place + taken) (omega arith) short in
+    let told = refuses first.program.now first.fuel schedule (place + taken) took.machine (omega (arith, within, short)) rest.reached (ap (λ t. can first.program.now t took.machine) same ∙ stuck) in
+    record { first = told.0; no_run = told.1 }
 
 -- a row with one member more
 pub row_longer : (schedule : List ℕ) (place end : ℕ) → IsRow schedule place end → slice_index schedule end ≡ slice_index schedule place → IsRow schedule place (end + 1)

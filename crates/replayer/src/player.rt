@@ -1,5 +1,5 @@
 //! One thread of a program that is played by a schedule.
-ghost use Rattle.std.specs.Prelude.{◌≡◌, ◌++◌, ◌<◌, ◌≤◌, OnOk, IfOk, unwrap_or, length, true};
+ghost use Rattle.std.specs.Prelude.{◌≡◌, ◌++◌, ◌<◌, ◌≤◌, OnOk, IfOk, length, true};
 ghost use Rattle.sc_machine.specs.Transcript.{tag};
 ghost use Rattle.replayer.specs.FirstLine.{line_length};
 
@@ -8,7 +8,7 @@ use sc_machine::StandingThread;
 use std::alloc::Global;
 use stride_base::{List, NoMemory};
 use stride_isa::Checked;
-use stride_isa::limits::FUEL_LIMIT;
+use stride_isa::limits::{FUEL_LIMIT, MONITOR_LIMIT};
 
 /// A thread that is played, with the label of its lines in the transcript.
 #[derive(Drop)]
@@ -40,13 +40,12 @@ fn line_len(bytes: &[u8]) -> usize
 }
 
 impl<'p> Player<'p> {
-    ghost use Rattle.sc_machine.specs.StandingThread.{started_at, stop_here};
+    ghost use Rattle.sc_machine.specs.StandingThread.{started_at};
     ghost use Rattle.sc_machine.specs.ThreadStep.{start_thread};
-    ghost use Rattle.sc_machine.specs.ThreadRun.{TakesWord};
     ghost use Rattle.sc_machine.specs.Schedule.{settled_lines};
     ghost use Rattle.sc_machine.specs.Transcript.{tagged, transcript_bytes};
     ghost use Rattle.stride_isa.specs.Listing.{cell_count};
-    ghost use Rattle.replayer.specs.Players.{WentOn, WentTurns};
+    ghost use Rattle.replayer.specs.Players.{WentTurns};
 
     /// The thread after its local start. What it prints on the way is appended to the transcript too.
     pub fn start(
@@ -70,32 +69,22 @@ impl<'p> Player<'p> {
         Ok(player)
     }
 
-    /// Answers the shared instruction at which the thread stands, and makes its local instructions up to where it stands
-    /// next. What it prints on the way is appended to the transcript too.
-    pub fn answer(&mut self, word: Option<u64>, transcript: &mut List<u8>) -> Result<(), NoMemory>
-        requires { TakesWord (stop_here self.old.thread) word }
-        ensures { OnOk result (WentOn self.old.thread self.new.thread (unwrap_or word 0) transcript.old.items transcript.new.items) }
-    {
-        sc_machine::settled_prints();
-        let before = self.thread.printed().len();
-        self.thread.answer(word);
-        self.tell(self.thread.printed().split_at(before).1, transcript)
-    }
-
-    /// Takes up to this many turns of the thread in a row, each at an access to the cells, and tells how many: those before
-    /// the first stop that is no access. What it prints on the way is appended to the transcript too.
+    /// Takes up to this many turns of the thread in a row, and tells how many: those before the first stop at which it may not
+    /// go on. What it prints on the way is appended to the transcript too.
     pub fn turns(
         &mut self,
         limit: u32,
         cells: &mut [u64],
+        holders: &mut [Option<u8>],
         transcript: &mut List<u8>,
     ) -> Result<u32, NoMemory>
-        requires { cell_count self.old.thread.program.decls ≤ length cells.old }
-        ensures { IfOk result (λ taken. WentTurns self.old.thread self.new.thread limit taken cells.old cells.new transcript.old.items transcript.new.items) }
+        requires cells { cell_count self.old.thread.program.decls ≤ length cells.old }
+        requires holders { length holders.old ≡ MONITOR_LIMIT }
+        ensures { IfOk result (λ taken. WentTurns self.old.thread self.new.thread limit taken cells.old cells.new holders.old holders.new transcript.old.items transcript.new.items) }
     {
         sc_machine::turns_print();
         let before = self.thread.printed().len();
-        let taken = self.thread.turns(limit, cells);
+        let taken = self.thread.turns(limit, cells, holders);
         self.tell(self.thread.printed().split_at(before).1, transcript)?;
         Ok(taken)
     }

@@ -8,19 +8,13 @@ use crate::replay_error::ReplayError;
 use crate::table::Table;
 use stride_base::limits::ORDER_LIMIT;
 
-// The end of the row of members that name the same thread as the one at this place. Where the place is inside a row that
-// was found before, its end is known.
-fn row_end(schedule: &[u8], place: usize, known: usize) -> usize
-    requires there { place < length schedule.now }
-    requires inside { known ≤ length schedule.now }
-    requires alike { IsRow schedule.now place known }
+// The end of the row of members that name the same thread as the one at this place.
+fn row_end(schedule: &[u8], place: usize) -> usize
+    requires { place < length schedule.now }
     ensures after { place < result }
     ensures within { result ≤ length schedule.now }
     ensures row { IsRow schedule.now place result }
 {
-    if place < known {
-        return known;
-    }
     let mut end = place + 1;
     while end < schedule.len() && schedule[end] == schedule[place] {
         end += 1;
@@ -28,8 +22,7 @@ fn row_end(schedule: &[u8], place: usize, known: usize) -> usize
     end
 }
 
-/// Plays the schedule, one turn for each member. Members in a row that name the same thread are played together, as far as
-/// its turns are accesses.
+/// Plays the schedule, one turn for each member. Members in a row that name the same thread are played together.
 pub fn play(table: &mut Table<'_>, schedule: &[u8]) -> Result<(), ReplayError>
     requires table { IsTable table.old }
     requires ready { Shows table.old (ready table.old.program.now table.old.fuel) }
@@ -39,18 +32,14 @@ pub fn play(table: &mut Table<'_>, schedule: &[u8]) -> Result<(), ReplayError>
     sc_machine::replay_along_turns();
     sc_machine::turns_join();
     let mut place = 0;
-    let mut end = 0;
     while place < schedule.len() {
-        end = row_end(schedule, place, end);
+        let end = row_end(schedule, place);
         let taken = table.turns(schedule[place], (end - place) as u32)?;
         place += taken as usize;
         if place < end {
-            if !table.turn(schedule[place])? {
-                return Err(ReplayError::NotEnabled {
-                    place: place as u32,
-                });
-            }
-            place += 1;
+            return Err(ReplayError::NotEnabled {
+                place: place as u32,
+            });
         }
     }
     Ok(())

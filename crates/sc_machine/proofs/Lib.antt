@@ -8,6 +8,7 @@ pub mod Output
 pub mod RanOn
 pub mod Refusals
 pub mod Rows
+pub mod SharedRows
 pub mod Single
 pub mod Standing
 pub mod Starts

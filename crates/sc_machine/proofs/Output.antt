@@ -12,7 +12,7 @@ use Rattle.sc_machine.specs.Machine.{Printed, printed_line}
 use Rattle.sc_machine.specs.Schedule.{printed_in, settled_lines}
 use Rattle.sc_machine.proofs.Rows.{IsPrint, row_prints}
 use Rattle.sc_machine.specs.Transcript.{tag, spelled, transcript_bytes, line_bytes, tagged}
-use Rattle.sc_machine.specs.TurnsInARow.{WithCells, answered_in, turns_by, lines_by}
+use Rattle.sc_machine.specs.TurnsInARow.{WithShared, answered_in, turns_by, lines_by}
 
 -- no byte is a line feed
 abbrev HasNoFeed : List ℕ → Type 0
@@ -149,7 +149,7 @@ settled-tagged p fuel t s bytes appended =
     appended_tagged t s.out (settled p fuel t s).out bytes (settled_lines p fuel t s) (settled_lines-lines p fuel t s) (settled-out p fuel t s) appended
 
 -- the same of turns in a row
-pub turns-out : (p : Listing) (fuel t n : ℕ) (s : WithCells) → (turns_by p fuel t n s).thread.out ≡ s.thread.out ++ line_bytes (lines_by p fuel t n s)
+pub turns-out : (p : Listing) (fuel t n : ℕ) (s : WithShared) → (turns_by p fuel t n s).thread.out ≡ s.thread.out ++ line_bytes (lines_by p fuel t n s)
 unfolding turns_by lines_by
 turns-out p fuel t zero s = sym (append-nil s.thread.out)
 turns-out p fuel t (suc n) s =
@@ -161,7 +161,7 @@ turns-out p fuel t (suc n) s =
     ∙ append_assoc s.thread.out (line_bytes (lines_by p fuel t n s)) (line_bytes lines)
     ∙ ap (λ xs. s.thread.out ++ xs) (sym (flat_map-append (λ (x : Printed). x.line) (lines_by p fuel t n s) lines))
 
-turns-lines : (p : Listing) (fuel t n : ℕ) (s : WithCells) → AreLines t (lines_by p fuel t n s)
+turns-lines : (p : Listing) (fuel t n : ℕ) (s : WithShared) → AreLines t (lines_by p fuel t n s)
 unfolding lines_by
 turns-lines p fuel t zero s = λ rest. refl
 turns-lines p fuel t (suc n) s =
@@ -169,6 +169,6 @@ turns-lines p fuel t (suc n) s =
     let answer = answered_in p fuel t (stop_of p t last.thread) last in
     lines_joined t (lines_by p fuel t n s) (settled_lines p fuel t answer) (turns-lines p fuel t n s) (settled_lines-lines p fuel t answer)
 
-pub turns-tagged : (p : Listing) (fuel t n : ℕ) (s : WithCells) (bytes : List ℕ) → (turns_by p fuel t n s).thread.out ≡ s.thread.out ++ bytes → tagged t true bytes ≡ transcript_bytes (lines_by p fuel t n s)
+pub turns-tagged : (p : Listing) (fuel t n : ℕ) (s : WithShared) (bytes : List ℕ) → (turns_by p fuel t n s).thread.out ≡ s.thread.out ++ bytes → tagged t true bytes ≡ transcript_bytes (lines_by p fuel t n s)
 turns-tagged p fuel t n s bytes appended =
     appended_tagged t s.thread.out (turns_by p fuel t n s).thread.out bytes (lines_by p fuel t n s) (turns-lines p fuel t n s) (turns-out p fuel t n s) appended

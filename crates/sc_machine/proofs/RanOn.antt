@@ -8,7 +8,7 @@ use Rattle.stride_isa.specs.declared.op.Op.{Op}
 use Rattle.sc_machine.specs.declared.end.End.{End}
 use Rattle.sc_machine.specs.declared.instruction.Next.TheVariants as nexts
 use Rattle.sc_machine.specs.declared.stop.Stop.{Stop}
-use Rattle.sc_machine.specs.Made.{Made}
+use Rattle.sc_machine.specs.Made.{Made, MadeAlone, Parts}
 use Rattle.sc_machine.specs.Operands.{operands}
 use Rattle.sc_machine.specs.ThreadRunInside.{IsRun}
 use Rattle.sc_machine.specs.ThreadStep.{Thread, Row, Goes, Ends, Stands, row, now, moved, local_step, settled, stop_in, stop_of, out_of_steps}
@@ -64,20 +64,32 @@ unmoved (Stands stop) stack stack' locals locals' out out' m = record {
   out_same = m.printed ∙ append-nil out.items;
 }
 
+-- a thread of these parts, at this position
+abbrev pub thread_by : ℕ → Parts → ℕ → Option End → Thread
+thread_by pc s made ended = thread_of_parts pc s.stack s.locals s.held s.out.items made ended
+
+-- with the monitors held as they were it is the same thread
+same_held : (pc made : ℕ) (s : Parts) (held : List Bool) (ended : Option End) → s.held ≡ held → thread_of_parts pc s.stack s.locals held s.out.items made ended ≡ thread_by pc s made ended
+same_held pc made s held ended same = ap (λ h. thread_of_parts pc s.stack s.locals h s.out.items made ended) (sym same)
+
 -- where a thread settles is where it settles after a local instruction, which goes on or uses up the fuel
-pub settled-going : (p : Listing) (fuel t pc made next : ℕ) (op : Op) (stack stack' locals locals' : List ℕ) (held : List Bool) (out out' : Listed ℕ) (later : Option End) → op ≡ op_at p t pc → made < fuel → Made (row p op pc stack locals held) (nexts.Goes next) stack stack' locals locals' out out' → later ≡ out_of_steps fuel (made + 1) → settled p fuel t (thread_of_parts next stack' locals' held out'.items (made + 1) later) ≡ settled p fuel t (thread_of_parts pc stack locals held out.items made None)
-settled-going p fuel t pc made next op stack stack' locals locals' held out out' later is had m end =
-    let s = thread_of_parts pc stack locals held out.items made None in
-    let stepped : local_step p fuel t s ≡ thread_of_parts next stack' locals' held out'.items (made + 1) later =
-    ap (λ x. moved fuel (row p x pc stack locals held) s) (sym is) ∙ moved_going fuel (row p op pc stack locals held) pc made next stack stack' locals locals' held out out' later m end in
+pub settled-going : (p : Listing) (fuel t pc made next : ℕ) (op : Op) (old new : Parts) (later : Option End) → op ≡ op_at p t pc → made < fuel → MadeAlone (row p op pc old.stack old.locals old.held) (nexts.Goes next) old new → later ≡ out_of_steps fuel (made + 1) → settled p fuel t (thread_by next new (made + 1) later) ≡ settled p fuel t (thread_by pc old made None)
+settled-going p fuel t pc made next op old new later is had alone end =
+    let s = thread_by pc old made None in
+    let stepped : local_step p fuel t s ≡ thread_by next new (made + 1) later =
+    ap (λ x. moved fuel (row p x pc old.stack old.locals old.held) s) (sym is)
+    ∙ moved_going fuel (row p op pc old.stack old.locals old.held) pc made next old.stack new.stack old.locals new.locals old.held old.out new.out later alone.made end
+    ∙ same_held next (made + 1) new old.held later alone.held_same in
     ap (settled p fuel t) (sym stepped) ∙ settled-step p fuel t s had (ap (λ (x : Thread). x.made) stepped)
 
 -- or ends it
-pub settled-ending : (p : Listing) (fuel t pc made : ℕ) (end : End) (op : Op) (stack stack' locals locals' : List ℕ) (held : List Bool) (out out' : Listed ℕ) → op ≡ op_at p t pc → made < fuel → Made (row p op pc stack locals held) (nexts.Ends end) stack stack' locals locals' out out' → settled p fuel t (thread_of_parts pc stack' locals' held out'.items (made + 1) (Some end)) ≡ settled p fuel t (thread_of_parts pc stack locals held out.items made None)
-settled-ending p fuel t pc made end op stack stack' locals locals' held out out' is had m =
-    let s = thread_of_parts pc stack locals held out.items made None in
-    let stepped : local_step p fuel t s ≡ thread_of_parts pc stack' locals' held out'.items (made + 1) (Some end) =
-    ap (λ x. moved fuel (row p x pc stack locals held) s) (sym is) ∙ moved_ending fuel (row p op pc stack locals held) pc made end stack stack' locals locals' held out out' m in
+pub settled-ending : (p : Listing) (fuel t pc made : ℕ) (end : End) (op : Op) (old new : Parts) → op ≡ op_at p t pc → made < fuel → MadeAlone (row p op pc old.stack old.locals old.held) (nexts.Ends end) old new → settled p fuel t (thread_by pc new (made + 1) (Some end)) ≡ settled p fuel t (thread_by pc old made None)
+settled-ending p fuel t pc made end op old new is had alone =
+    let s = thread_by pc old made None in
+    let stepped : local_step p fuel t s ≡ thread_by pc new (made + 1) (Some end) =
+    ap (λ x. moved fuel (row p x pc old.stack old.locals old.held) s) (sym is)
+    ∙ moved_ending fuel (row p op pc old.stack old.locals old.held) pc made end old.stack new.stack old.locals new.locals old.held old.out new.out alone.made
+    ∙ same_held pc (made + 1) new old.held (Some end) alone.held_same in
     ap (settled p fuel t) (sym stepped) ∙ settled-step p fuel t s had (ap (λ (x : Thread). x.made) stepped)
 
 -- a thread that stands at a shared instruction has its parts as they were
@@ -86,15 +98,16 @@ pub record Stayed (p : Listing) (t : ℕ) (stop : Stop) (old new : Thread) : Typ
   pub stands : now p t new ≡ Stands (stop_of p t new)
   pub stop_is : stop_of p t new ≡ stop
 
-pub stayed : (p : Listing) (t pc made : ℕ) (op : Op) (stack stack' locals locals' : List ℕ) (held : List Bool) (out out' : Listed ℕ) → op ≡ op_at p t pc → Made (row p op pc stack locals held) nexts.Stands stack stack' locals locals' out out' → Stayed p t (stop_in (row p op pc stack locals held)) (thread_of_parts pc stack locals held out.items made None) (thread_of_parts pc stack' locals' held out'.items made None)
-stayed p t pc made op stack stack' locals locals' held out out' is m =
-    let u = unmoved (row p op pc stack locals held) stack stack' locals locals' out out' m in
-    let s = thread_of_parts pc stack locals held out.items made None in
-    let same : thread_of_parts pc stack' locals' held out'.items made None ≡ s =
-    same_parts pc made stack' stack locals' locals held out'.items out.items None None u.stack_same u.locals_same u.out_same refl in
+pub stayed : (p : Listing) (t pc made : ℕ) (op : Op) (old new : Parts) → op ≡ op_at p t pc → MadeAlone (row p op pc old.stack old.locals old.held) nexts.Stands old new → Stayed p t (stop_in (row p op pc old.stack old.locals old.held)) (thread_by pc old made None) (thread_by pc new made None)
+stayed p t pc made op old new is alone =
+    let u = unmoved (row p op pc old.stack old.locals old.held) old.stack new.stack old.locals new.locals old.out new.out alone.made in
+    let s = thread_by pc old made None in
+    let same : thread_by pc new made None ≡ s =
+    sym (same_held pc made new old.held None alone.held_same)
+    ∙ same_parts pc made new.stack old.stack new.locals old.locals old.held new.out.items old.out.items None None u.stack_same u.locals_same u.out_same refl in
     let StandsThere : Thread → Type 0 = λ x. now p t x ≡ Stands (stop_of p t x) in
-    let here : StandsThere s = subst (λ (x : Op). row p x pc stack locals held ≡ Stands (stop_in (row p x pc stack locals held))) is u.row_is in
-    record { same = same; stands = subst StandsThere (sym same) here; stop_is = ap (stop_of p t) same ∙ sym (ap (λ x. stop_in (row p x pc stack locals held)) is) }
+    let here : StandsThere s = subst (λ (x : Op). row p x pc old.stack old.locals old.held ≡ Stands (stop_in (row p x pc old.stack old.locals old.held))) is u.row_is in
+    record { same = same; stands = subst StandsThere (sym same) here; stop_is = ap (stop_of p t) same ∙ sym (ap (λ x. stop_in (row p x pc old.stack old.locals old.held)) is) }
 
 -- what always holds of a run holds where it ends
 pub is_run_ended : (p : Listing) (t fuel pc depth made : ℕ) (end : End) (stack stack' locals locals' : List ℕ) (r : Row) (out out' : Listed ℕ) (depth' : ℕ) → IsRun p t fuel pc depth made None → length stack ≡ depth → length stack' ≡ depth' → Made r (nexts.Ends end) stack stack' locals locals' out out' → IsRun p t fuel pc depth' (made + 1) (Some end)

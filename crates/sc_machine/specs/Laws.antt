@@ -1,13 +1,14 @@
 -- What holds of every run of the machine, whatever the program is.
-use Rattle.std.specs.Prelude.{◌≡◌, ℕ, ◌<◌, ◌≤◌, true, false, List, ◌++◌, length, map, take, replicate, slice_index, slice_set, Some, None, option_and_then}
+use Rattle.std.specs.Prelude.{◌≡◌, ℕ, ◌<◌, ◌≤◌, true, false, List, ◌++◌, length, map, take, replicate, slice_index, slice_index_or, slice_set, Some, None, option_and_then}
 use Rattle.std.specs.List.{flat_map}
+use Rattle.stride_isa.specs.Limits.{monitor_limit}
 use Rattle.stride_isa.specs.Listing.{Listing, cell_count, start_of}
 use Rattle.sc_machine.specs.declared.stop.Stop.{Stop}
 use Rattle.sc_machine.specs.ThreadStep.{Thread, Row, Stands, start_thread, now, moved, settled, stop_of, answered}
 use Rattle.sc_machine.specs.Machine.{Machine, thread_at, may_pass, can}
 use Rattle.sc_machine.specs.Schedule.{settled_lines, turn, turned, turns, stuck_place, ready, thread_numbers, run_of, refused_place, finished, replayed, outputs}
 use Rattle.sc_machine.specs.Transcript.{transcript_bytes, line_bytes, bytes_of, tagged}
-use Rattle.sc_machine.specs.TurnsInARow.{WithCells, IsAccess, turns_by, lines_by}
+use Rattle.sc_machine.specs.TurnsInARow.{Stays, TakesTurn, WithShared, turns_by, lines_by}
 
 -- the single steps of a schedule do what its whole turns do, after the local starts
 abbrev pub TurnsAreSteps : Type 0
@@ -75,27 +76,31 @@ SettledPrints = (p : Listing) (fuel t : ℕ) (s : Thread) → ((settled p fuel t
 abbrev pub OutputsAreLines : Type 0
 OutputsAreLines = (p : Listing) (fuel : ℕ) (schedule : List ℕ) (m : Machine) → replayed p fuel schedule ≡ Some m → outputs m ≡ map (λ t. bytes_of t m.transcript) (thread_numbers p)
 
--- the machine has this thread by its number, which stands, and the first cells of the row
-pub record ShownIn (p : Listing) (t : ℕ) (s : WithCells) (m : Machine) : Type 0 where
+-- the machine has this thread by its number, which stands, and the first cells and the holders of the rows
+pub record ShownIn (p : Listing) (t : ℕ) (s : WithShared) (m : Machine) : Type 0 where
   pub there : t < length m.threads
   pub thread : s.thread ≡ thread_at m t
   pub stands : now p t s.thread ≡ Stands (stop_of p t s.thread)
   pub room : cell_count p.decls ≤ length s.cells
   pub cells : (cell : ℕ) → cell < cell_count p.decls → slice_index s.cells cell ≡ m.cells cell
+  pub monitors : length s.holders ≡ monitor_limit
+  pub holders : (monitor : ℕ) → monitor < monitor_limit → slice_index_or s.holders monitor None ≡ m.holders monitor
 
 -- the machine after so many turns of the thread
-pub record AfterTurns (p : Listing) (fuel t n : ℕ) (s : WithCells) (m : Machine) : Type 0 where
+pub record AfterTurns (p : Listing) (fuel t n : ℕ) (s : WithShared) (m : Machine) : Type 0 where
   pub machine : Machine
   pub reached : turns p fuel (replicate n t) m ≡ Some machine
   pub threads : machine.threads ≡ slice_set m.threads t (turns_by p fuel t n s).thread
   pub cells : (cell : ℕ) → cell < cell_count p.decls → slice_index (turns_by p fuel t n s).cells cell ≡ machine.cells cell
-  pub holders : machine.holders ≡ m.holders
+  pub holders : (monitor : ℕ) → monitor < monitor_limit → slice_index_or (turns_by p fuel t n s).holders monitor None ≡ machine.holders monitor
   pub transcript : machine.transcript ≡ m.transcript ++ lines_by p fuel t n s
+  pub refused : Stays p t (stop_of p t (turns_by p fuel t n s).thread) (turns_by p fuel t n s).holders → can p t machine ≡ false
 
--- turns of one thread in a row, each at an access, are turns of the machine
+-- turns of one thread in a row, at each of which it may go on, are turns of the machine; where it may not go on then, it is
+-- not enabled
 abbrev pub TurnsInARow : Type 0
-TurnsInARow = (p : Listing) (fuel t n : ℕ) (s : WithCells) (m : Machine) → ShownIn p t s m → ((k : ℕ) → k < n → IsAccess p (stop_of p t (turns_by p fuel t k s).thread)) → AfterTurns p fuel t n s m
+TurnsInARow = (p : Listing) (fuel t n : ℕ) (s : WithShared) (m : Machine) → ShownIn p t s m → ((k : ℕ) → k < n → TakesTurn p t (turns_by p fuel t k s)) → AfterTurns p fuel t n s m
 
 -- what the thread prints in these turns is appended to its output, and is its lines of the transcript
 abbrev pub TurnsPrint : Type 0
-TurnsPrint = (p : Listing) (fuel t n : ℕ) (s : WithCells) → ((turns_by p fuel t n s).thread.out ≡ s.thread.out ++ line_bytes (lines_by p fuel t n s)) × ((bytes : List ℕ) → (turns_by p fuel t n s).thread.out ≡ s.thread.out ++ bytes → tagged t true bytes ≡ transcript_bytes (lines_by p fuel t n s))
+TurnsPrint = (p : Listing) (fuel t n : ℕ) (s : WithShared) → ((turns_by p fuel t n s).thread.out ≡ s.thread.out ++ line_bytes (lines_by p fuel t n s)) × ((bytes : List ℕ) → (turns_by p fuel t n s).thread.out ≡ s.thread.out ++ bytes → tagged t true bytes ≡ transcript_bytes (lines_by p fuel t n s))

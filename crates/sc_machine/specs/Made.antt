@@ -1,5 +1,5 @@
--- What the code of one instruction leaves of the parts of a thread and of the cells, by what the instruction comes to.
-use Rattle.std.specs.Prelude.{◌≡◌, ℕ, ◌+◌, ◌<◌, ◌≤◌, Bool, List, ◌++◌, length}
+-- What the code of one instruction leaves of the parts of a thread and of what threads share, by what the instruction comes to.
+use Rattle.std.specs.Prelude.{◌≡◌, ℕ, ◌+◌, ◌<◌, ◌≤◌, Bool, List, ◌++◌, Option, length}
 use Rattle.stride_base.specs.Listed.{Listed}
 use Rattle.stride_isa.specs.Listing.{Listing}
 use Rattle.stride_isa.specs.declared.op.Op.{Op}
@@ -7,7 +7,7 @@ use Rattle.sc_machine.specs.declared.instruction.Next.{Next}
 use Rattle.sc_machine.specs.declared.instruction.Next.TheVariants as nexts
 use Rattle.sc_machine.specs.Limits.{line_limit}
 use Rattle.sc_machine.specs.ThreadStep.{Row, Goes, Ends, Stands, printed_by, stop_in, done_stack, done_held}
-use Rattle.sc_machine.specs.TurnsInARow.{IsAccess, word_in, cells_in}
+use Rattle.sc_machine.specs.TurnsInARow.{Passes, Stays, word_in, cells_in, holders_in}
 
 -- what comes next, without what it leaves
 abbrev pub next_of : Row → Next
@@ -36,20 +36,42 @@ pub record Made (row : Row) (next : Next) (stack stack' locals locals' : List �
   pub room : out'.spare + length (printed_by row) ≡ out.spare
   pub few : length (printed_by row) ≤ line_limit
 
--- it made the access at which the thread stands, of the turns that were left
-pub record Passed (p : Listing) (op : Op) (row : Row) (held : List Bool) (left : ℕ) (stack stack' locals locals' cells cells' : List ℕ) (out out' : Listed ℕ) : Type 0 where
+-- all that an instruction reads and writes of a thread and of what threads share
+pub record Parts : Type 0 where
+  pub stack : List ℕ
+  pub locals : List ℕ
+  pub held : List Bool
+  pub cells : List ℕ
+  pub holders : List (Option ℕ)
+  pub out : Listed ℕ
+
+-- these as such parts
+abbrev pub parts : List ℕ → List ℕ → List Bool → List ℕ → List (Option ℕ) → Listed ℕ → Parts
+parts stack locals held cells holders out = record { stack = stack; locals = locals; held = held; cells = cells; holders = holders; out = out }
+
+-- it made the shared instruction at which the thread stood and could go on, of the turns that were left
+pub record Passed (p : Listing) (t : ℕ) (op : Op) (row : Row) (left : ℕ) (old new : Parts) : Type 0 where
   pub some : 0 < left
   pub stands : row ≡ Stands (stop_in row)
-  pub access : IsAccess p (stop_in row)
-  pub stack_is : stack' ≡ done_stack op stack (word_in (stop_in row) cells)
-  pub held_same : done_held op held ≡ held
-  pub cells_are : cells' ≡ cells_in (stop_in row) cells
-  pub locals_same : locals' ≡ locals
-  pub out_same : out' ≡ out
+  pub passes : Passes p t (stop_in row) old.holders
+  pub stack_is : new.stack ≡ done_stack op old.stack (word_in (stop_in row) old.cells)
+  pub held_are : new.held ≡ done_held op old.held
+  pub cells_are : new.cells ≡ cells_in (stop_in row) old.cells
+  pub holders_are : new.holders ≡ holders_in t (stop_in row) old.holders
+  pub locals_same : new.locals ≡ old.locals
+  pub out_same : new.out ≡ old.out
 
--- what it did, by what it came to; it leaves the thread at an access only where no turn is left
-abbrev pub Executed : Listing → Op → Row → List Bool → ℕ → Next → List ℕ → List ℕ → List ℕ → List ℕ → List ℕ → List ℕ → Listed ℕ → Listed ℕ → Type 0
-Executed p op row held left nexts.Passes stack stack' locals locals' cells cells' out out' = Passed p op row held left stack stack' locals locals' cells cells' out out'
-Executed p op row held left (nexts.Goes pc) stack stack' locals locals' cells cells' out out' = Made row (nexts.Goes pc) stack stack' locals locals' out out' × (cells' ≡ cells)
-Executed p op row held left (nexts.Ends end) stack stack' locals locals' cells cells' out out' = Made row (nexts.Ends end) stack stack' locals locals' out out' × (cells' ≡ cells)
-Executed p op row held left nexts.Stands stack stack' locals locals' cells cells' out out' = Made row nexts.Stands stack stack' locals locals' out out' × (cells' ≡ cells) × (0 < left → IsAccess p (stop_in row) → ⊥)
+-- it made what the row says, and nothing of what threads share
+pub record MadeAlone (row : Row) (next : Next) (old new : Parts) : Type 0 where
+  pub made : Made row next old.stack new.stack old.locals new.locals old.out new.out
+  pub held_same : new.held ≡ old.held
+  pub cells_same : new.cells ≡ old.cells
+  pub holders_same : new.holders ≡ old.holders
+
+-- what it did, by what it came to; where a turn is left it leaves the thread only at a shared instruction at which it may not
+-- go on
+abbrev pub Executed : Listing → ℕ → Op → Row → ℕ → Next → Parts → Parts → Type 0
+Executed p t op row left nexts.Passes old new = Passed p t op row left old new
+Executed p t op row left (nexts.Goes pc) old new = MadeAlone row (nexts.Goes pc) old new
+Executed p t op row left (nexts.Ends end) old new = MadeAlone row (nexts.Ends end) old new
+Executed p t op row left nexts.Stands old new = MadeAlone row nexts.Stands old new × (0 < left → Stays p t (stop_in row) old.holders)

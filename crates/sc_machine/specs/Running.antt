@@ -5,7 +5,7 @@ use Rattle.sc_machine.specs.declared.end.End.{End}
 use Rattle.sc_machine.specs.declared.running.Cursor.{Cursor}
 use Rattle.sc_machine.specs.Operands.{operands}
 use Rattle.sc_machine.specs.ThreadStep.{Thread, Stands, now, stop_of, settled}
-use Rattle.sc_machine.specs.TurnsInARow.{TookTurns}
+use Rattle.sc_machine.specs.TurnsInARow.{TookTurns, WithShared, beside}
 
 -- the thread of these parts, with this end or none
 abbrev pub thread_with : Option End → Cursor → List ℕ → List ℕ → List Bool → List ℕ → Thread
@@ -29,7 +29,7 @@ pub record RanOn (p : Listing) (fuel t : ℕ) (first last : Thread) : Type 0 whe
   pub stands : now p t last ≡ Stands (stop_of p t last)
 
 -- the thread settled and then took all turns but those that are left, by which it stands in this state
-pub record RanTurns (p : Listing) (fuel t limit left : ℕ) (first : Thread) (cells : List ℕ) (last : Thread) (cells' : List ℕ) : Type 0 where
+pub record RanTurns (p : Listing) (fuel t limit left : ℕ) (first : Thread) (cells : List ℕ) (holders : List (Option ℕ)) (last : WithShared) : Type 0 where
   pub fewer : left ≤ limit
-  pub turns : TookTurns p fuel t limit (limit - left) (record { thread = settled p fuel t first; cells = cells }) (record { thread = last; cells = cells' })
-  pub stands : now p t last ≡ Stands (stop_of p t last)
+  pub turns : TookTurns p fuel t limit (limit - left) (beside cells holders (settled p fuel t first)) last
+  pub stands : now p t last.thread ≡ Stands (stop_of p t last.thread)

@@ -3,7 +3,7 @@ ghost use Rattle.std.specs.Prelude.{◌≡◌, ◌+◌, ◌-◌, ◌*◌, ◌≤
 ghost use Rattle.sc_machine.specs.ThreadStep.{answered, settled};
 ghost use Rattle.sc_machine.specs.ThreadRun.{run_of, state, stop_at, StandsAt, SameThread, IsAnswered, IsShared, TakesWord, NamesCell};
 ghost use Rattle.sc_machine.specs.TurnsInARow.{TookTurns, beside};
-ghost use Rattle.sc_machine.specs.declared.end.End.TheVariants.{Stopped};
+ghost use Rattle.sc_machine.specs.declared.end.End.TheVariants.{OutOfSteps, Stopped};
 ghost use Rattle.stride_isa.specs.Listing.{cell_count};
 
 use crate::end::End;
@@ -17,7 +17,7 @@ use crate::task::Task;
 use std::marker::Model;
 use stride_base::List;
 use stride_isa::Checked;
-use stride_isa::limits::FUEL_LIMIT;
+use stride_isa::limits::{FUEL_LIMIT, MONITOR_LIMIT};
 
 /// What a thread runs, where it is and its end. Each call is lent the frame of the same run.
 ///
@@ -38,6 +38,15 @@ impl<'p> Model for Control<'p> {
     ghost view = { λ a. record { program = a.task.program.now; thread = a.task.thread; fuel = a.task.fuel; pc = a.at.pc; depth = a.at.top.depth; made = a.at.made; ended = a.ended } };
 
     ghost invariant = { λ a. IsRun a.task.program.now a.task.thread a.task.fuel a.at.pc a.at.top.depth a.at.made a.ended };
+}
+
+// The end of a thread whose fuel is spent. It comes once, so that what ends a thread is not written after every answer.
+#[cold]
+#[inline(never)]
+fn out_of_steps() -> Option<End>
+    ensures { result ≡ Some OutOfSteps }
+{
+    Some(End::OutOfSteps)
 }
 
 impl<'p> Control<'p> {
@@ -101,7 +110,7 @@ impl<'p> Control<'p> {
             self.at,
             &mut frame.words,
             &mut frame.locals,
-            &frame.held,
+            &mut frame.held,
             out,
         );
         self.at = at;
@@ -146,7 +155,7 @@ impl<'p> Control<'p> {
             &mut frame.held,
         );
         if self.at.made >= self.task.fuel {
-            self.ended = Some(End::OutOfSteps);
+            self.ended = out_of_steps();
         }
     }
 
@@ -178,7 +187,7 @@ impl<'p> Control<'p> {
             next,
             &mut frame.words,
             &mut frame.locals,
-            &frame.held,
+            &mut frame.held,
             out,
         );
         self.at = at;
@@ -187,24 +196,29 @@ impl<'p> Control<'p> {
         }
     }
 
-    /// Takes up to this many turns of the thread, which stands, in a row, each at an access to the cells, and tells how many.
+    /// Takes up to this many turns of the thread, which stands, in a row, and tells how many: those before the first stop at
+    /// which it may not go on.
     #[inline(always)]
     pub(crate) fn turns(
         &mut self,
         frame: &mut Frame,
         limit: u32,
         cells: &mut [u64],
+        holders: &mut [Option<u8>],
         out: &mut List<u8>,
     ) -> u32
         requires stands { StandsAt (run_of self.old frame.old) (stop_at (run_of self.old frame.old)) }
         requires cells { cell_count self.old.program.decls ≤ length cells.old }
+        requires holders { length holders.old ≡ MONITOR_LIMIT }
         requires spare { LINE_LIMIT * (self.old.fuel - self.old.made) ≤ out.old.spare }
         ensures turns { TookTurns self.old.program self.old.fuel self.old.thread limit result
-            (beside cells.old (state (run_of self.old frame.old) out.old.items)) (beside cells.new (state (run_of self.new frame.new) out.new.items)) }
+            (beside cells.old holders.old (state (run_of self.old frame.old) out.old.items))
+            (beside cells.new holders.new (state (run_of self.new frame.new) out.new.items)) }
         ensures stands { StandsAt (run_of self.new frame.new) (stop_at (run_of self.new frame.new)) }
         ensures same { SameThread (run_of self.old frame.old) (run_of self.new frame.new) }
         ensures spare { LINE_LIMIT * (self.new.fuel - self.new.made) ≤ out.new.spare }
         ensures cells { length cells.new ≡ length cells.old }
+        ensures holders { length holders.new ≡ length holders.old }
     {
         if self.ended.is_some() {
             return 0;
@@ -215,8 +229,9 @@ impl<'p> Control<'p> {
             limit,
             &mut frame.words,
             &mut frame.locals,
-            &frame.held,
+            &mut frame.held,
             cells,
+            holders,
             out,
         );
         self.at = at;

@@ -9,7 +9,8 @@ ghost use Rattle.sc_machine.specs.ThreadStep.{row, halt_end, member_cell as cell
 ghost use Rattle.sc_machine.specs.ThreadRun.{IsCell, IsMonitor, NamesCell};
 ghost use Rattle.sc_machine.specs.declared.end.End.TheVariants.{Halted, Trapped};
 ghost use Rattle.sc_machine.specs.declared.stop.Stop.TheVariants.{Ended};
-ghost use Rattle.sc_machine.specs.Made.{Executed};
+ghost use Rattle.sc_machine.specs.Machine.{is_free_for as free_for};
+ghost use Rattle.sc_machine.specs.Made.{Executed, parts};
 ghost use Rattle.sc_machine.specs.Operands.{operands};
 
 use crate::end::End;
@@ -27,7 +28,7 @@ use stride_isa::{Change, Checked, Op, instructions};
 pub enum Next {
     /// It was local, and the thread goes on at this position.
     Goes(u32),
-    /// It was an access, which was made, and the thread goes on at the next position.
+    /// It was a shared one, which was made, and the thread goes on at the next position.
     Passes,
     /// It ended the thread.
     Ends(End),
@@ -47,30 +48,30 @@ macro_rules! with_operand {
 
 // One macro for each class of the table: what its instructions do to the parts, of which each class is handed all.
 macro_rules! pushes {
-    (Push ($program:ident $pc:ident $words:ident $top:ident $locals:ident $held:ident $cells:ident $left:ident $out:ident) $value:ident) => {{
+    (Push ($program:ident $thread:ident $pc:ident $words:ident $top:ident $locals:ident $held:ident $cells:ident $holders:ident $left:ident $out:ident) $value:ident) => {{
         $top.push($words, $value);
         Next::Goes($pc + 1)
     }};
 }
 
 macro_rules! stack {
-    (Dup ($program:ident $pc:ident $words:ident $top:ident $locals:ident $held:ident $cells:ident $left:ident $out:ident) $value:ident) => {{
+    (Dup ($program:ident $thread:ident $pc:ident $words:ident $top:ident $locals:ident $held:ident $cells:ident $holders:ident $left:ident $out:ident) $value:ident) => {{
         let first = $top.peek($words, 0);
         $top.push($words, first);
         Next::Goes($pc + 1)
     }};
-    (Drop ($program:ident $pc:ident $words:ident $top:ident $locals:ident $held:ident $cells:ident $left:ident $out:ident) $value:ident) => {{
+    (Drop ($program:ident $thread:ident $pc:ident $words:ident $top:ident $locals:ident $held:ident $cells:ident $holders:ident $left:ident $out:ident) $value:ident) => {{
         $top.pop($words);
         Next::Goes($pc + 1)
     }};
-    (Swap ($program:ident $pc:ident $words:ident $top:ident $locals:ident $held:ident $cells:ident $left:ident $out:ident) $value:ident) => {{
+    (Swap ($program:ident $thread:ident $pc:ident $words:ident $top:ident $locals:ident $held:ident $cells:ident $holders:ident $left:ident $out:ident) $value:ident) => {{
         let first = $top.pop($words);
         let second = $top.pop($words);
         $top.push($words, first);
         $top.push($words, second);
         Next::Goes($pc + 1)
     }};
-    (Over ($program:ident $pc:ident $words:ident $top:ident $locals:ident $held:ident $cells:ident $left:ident $out:ident) $value:ident) => {{
+    (Over ($program:ident $thread:ident $pc:ident $words:ident $top:ident $locals:ident $held:ident $cells:ident $holders:ident $left:ident $out:ident) $value:ident) => {{
         let second = $top.peek($words, 1);
         $top.push($words, second);
         Next::Goes($pc + 1)
@@ -78,7 +79,7 @@ macro_rules! stack {
 }
 
 macro_rules! two {
-    ($variant:ident ($program:ident $pc:ident $words:ident $top:ident $locals:ident $held:ident $cells:ident $left:ident $out:ident) $value:ident ($method:ident)) => {{
+    ($variant:ident ($program:ident $thread:ident $pc:ident $words:ident $top:ident $locals:ident $held:ident $cells:ident $holders:ident $left:ident $out:ident) $value:ident ($method:ident)) => {{
         let right = $top.pop($words);
         let left = $top.pop($words);
         $top.push($words, left.$method(right));
@@ -87,7 +88,7 @@ macro_rules! two {
 }
 
 macro_rules! quotient {
-    ($variant:ident ($program:ident $pc:ident $words:ident $top:ident $locals:ident $held:ident $cells:ident $left:ident $out:ident) $value:ident ($operator:tt)) => {
+    ($variant:ident ($program:ident $thread:ident $pc:ident $words:ident $top:ident $locals:ident $held:ident $cells:ident $holders:ident $left:ident $out:ident) $value:ident ($operator:tt)) => {
         if $top.peek($words, 0) == 0 {
             Next::Ends(trapped(Trap::DivZero, $pc))
         } else {
@@ -100,7 +101,7 @@ macro_rules! quotient {
 }
 
 macro_rules! bits {
-    ($variant:ident ($program:ident $pc:ident $words:ident $top:ident $locals:ident $held:ident $cells:ident $left:ident $out:ident) $value:ident ($operator:tt)) => {{
+    ($variant:ident ($program:ident $thread:ident $pc:ident $words:ident $top:ident $locals:ident $held:ident $cells:ident $holders:ident $left:ident $out:ident) $value:ident ($operator:tt)) => {{
         let right = $top.pop($words);
         let left = $top.pop($words);
         $top.push($words, left $operator right);
@@ -109,7 +110,7 @@ macro_rules! bits {
 }
 
 macro_rules! shift {
-    ($variant:ident ($program:ident $pc:ident $words:ident $top:ident $locals:ident $held:ident $cells:ident $left:ident $out:ident) $value:ident ($operator:tt)) => {{
+    ($variant:ident ($program:ident $thread:ident $pc:ident $words:ident $top:ident $locals:ident $held:ident $cells:ident $holders:ident $left:ident $out:ident) $value:ident ($operator:tt)) => {{
         let right = $top.pop($words);
         let left = $top.pop($words);
         $top.push($words, left $operator (right % 64));
@@ -118,7 +119,7 @@ macro_rules! shift {
 }
 
 macro_rules! compare {
-    ($variant:ident ($program:ident $pc:ident $words:ident $top:ident $locals:ident $held:ident $cells:ident $left:ident $out:ident) $value:ident ($operator:tt)) => {{
+    ($variant:ident ($program:ident $thread:ident $pc:ident $words:ident $top:ident $locals:ident $held:ident $cells:ident $holders:ident $left:ident $out:ident) $value:ident ($operator:tt)) => {{
         let right = $top.pop($words);
         let left = $top.pop($words);
         $top.push($words, u64::from(left $operator right));
@@ -127,7 +128,7 @@ macro_rules! compare {
 }
 
 macro_rules! complement {
-    ($variant:ident ($program:ident $pc:ident $words:ident $top:ident $locals:ident $held:ident $cells:ident $left:ident $out:ident) $value:ident) => {{
+    ($variant:ident ($program:ident $thread:ident $pc:ident $words:ident $top:ident $locals:ident $held:ident $cells:ident $holders:ident $left:ident $out:ident) $value:ident) => {{
         let first = $top.pop($words);
         $top.push($words, !first);
         Next::Goes($pc + 1)
@@ -135,27 +136,27 @@ macro_rules! complement {
 }
 
 macro_rules! gets {
-    ($variant:ident ($program:ident $pc:ident $words:ident $top:ident $locals:ident $held:ident $cells:ident $left:ident $out:ident) $local:ident) => {{
+    ($variant:ident ($program:ident $thread:ident $pc:ident $words:ident $top:ident $locals:ident $held:ident $cells:ident $holders:ident $left:ident $out:ident) $local:ident) => {{
         $top.push($words, $locals[$local as usize]);
         Next::Goes($pc + 1)
     }};
 }
 
 macro_rules! sets {
-    ($variant:ident ($program:ident $pc:ident $words:ident $top:ident $locals:ident $held:ident $cells:ident $left:ident $out:ident) $local:ident) => {{
+    ($variant:ident ($program:ident $thread:ident $pc:ident $words:ident $top:ident $locals:ident $held:ident $cells:ident $holders:ident $left:ident $out:ident) $local:ident) => {{
         $locals[$local as usize] = $top.pop($words);
         Next::Goes($pc + 1)
     }};
 }
 
 macro_rules! jumps {
-    ($variant:ident ($program:ident $pc:ident $words:ident $top:ident $locals:ident $held:ident $cells:ident $left:ident $out:ident) $position:ident) => {
+    ($variant:ident ($program:ident $thread:ident $pc:ident $words:ident $top:ident $locals:ident $held:ident $cells:ident $holders:ident $left:ident $out:ident) $position:ident) => {
         Next::Goes($position)
     };
 }
 
 macro_rules! branches {
-    ($variant:ident ($program:ident $pc:ident $words:ident $top:ident $locals:ident $held:ident $cells:ident $left:ident $out:ident) $target:ident ($operator:tt)) => {
+    ($variant:ident ($program:ident $thread:ident $pc:ident $words:ident $top:ident $locals:ident $held:ident $cells:ident $holders:ident $left:ident $out:ident) $target:ident ($operator:tt)) => {
         if $top.pop($words) $operator 0 {
             Next::Goes($target)
         } else {
@@ -164,9 +165,9 @@ macro_rules! branches {
     };
 }
 
-// An access is made at once where a turn is left. Monitors are entered and left by an answer alone.
+// A shared instruction is made at once where a turn is left and the thread may go on.
 macro_rules! stands {
-    (Read ($program:ident $pc:ident $words:ident $top:ident $locals:ident $held:ident $cells:ident $left:ident $out:ident) $decl:ident) => {
+    (Read ($program:ident $thread:ident $pc:ident $words:ident $top:ident $locals:ident $held:ident $cells:ident $holders:ident $left:ident $out:ident) $decl:ident) => {
         if $left == 0 {
             Next::Stands
         } else {
@@ -175,7 +176,7 @@ macro_rules! stands {
             Next::Passes
         }
     };
-    (Write ($program:ident $pc:ident $words:ident $top:ident $locals:ident $held:ident $cells:ident $left:ident $out:ident) $decl:ident) => {
+    (Write ($program:ident $thread:ident $pc:ident $words:ident $top:ident $locals:ident $held:ident $cells:ident $holders:ident $left:ident $out:ident) $decl:ident) => {
         if $left == 0 {
             Next::Stands
         } else {
@@ -184,7 +185,7 @@ macro_rules! stands {
             Next::Passes
         }
     };
-    (ReadAt ($program:ident $pc:ident $words:ident $top:ident $locals:ident $held:ident $cells:ident $left:ident $out:ident) $decl:ident) => {
+    (ReadAt ($program:ident $thread:ident $pc:ident $words:ident $top:ident $locals:ident $held:ident $cells:ident $holders:ident $left:ident $out:ident) $decl:ident) => {
         match member_cell($program, $decl, $top.peek($words, 0)) {
             Some(cell) => {
                 if $left == 0 {
@@ -198,7 +199,7 @@ macro_rules! stands {
             None => Next::Ends(trapped(Trap::Range, $pc)),
         }
     };
-    (WriteAt ($program:ident $pc:ident $words:ident $top:ident $locals:ident $held:ident $cells:ident $left:ident $out:ident) $decl:ident) => {
+    (WriteAt ($program:ident $thread:ident $pc:ident $words:ident $top:ident $locals:ident $held:ident $cells:ident $holders:ident $left:ident $out:ident) $decl:ident) => {
         match member_cell($program, $decl, $top.peek($words, 0)) {
             Some(cell) => {
                 if $left == 0 {
@@ -212,7 +213,7 @@ macro_rules! stands {
             None => Next::Ends(trapped(Trap::Range, $pc)),
         }
     };
-    (Xchg ($program:ident $pc:ident $words:ident $top:ident $locals:ident $held:ident $cells:ident $left:ident $out:ident) $decl:ident) => {
+    (Xchg ($program:ident $thread:ident $pc:ident $words:ident $top:ident $locals:ident $held:ident $cells:ident $holders:ident $left:ident $out:ident) $decl:ident) => {
         if $left == 0 {
             Next::Stands
         } else {
@@ -221,7 +222,7 @@ macro_rules! stands {
             Next::Passes
         }
     };
-    (AddTo ($program:ident $pc:ident $words:ident $top:ident $locals:ident $held:ident $cells:ident $left:ident $out:ident) $decl:ident) => {
+    (AddTo ($program:ident $thread:ident $pc:ident $words:ident $top:ident $locals:ident $held:ident $cells:ident $holders:ident $left:ident $out:ident) $decl:ident) => {
         if $left == 0 {
             Next::Stands
         } else {
@@ -230,7 +231,7 @@ macro_rules! stands {
             Next::Passes
         }
     };
-    (Cas ($program:ident $pc:ident $words:ident $top:ident $locals:ident $held:ident $cells:ident $left:ident $out:ident) $decl:ident) => {
+    (Cas ($program:ident $thread:ident $pc:ident $words:ident $top:ident $locals:ident $held:ident $cells:ident $holders:ident $left:ident $out:ident) $decl:ident) => {
         if $left == 0 {
             Next::Stands
         } else {
@@ -241,31 +242,41 @@ macro_rules! stands {
             Next::Passes
         }
     };
-    (Enter ($program:ident $pc:ident $words:ident $top:ident $locals:ident $held:ident $cells:ident $left:ident $out:ident) $monitor:ident) => {
-        if $held[monitor_index($program, $monitor)] {
+    (Enter ($program:ident $thread:ident $pc:ident $words:ident $top:ident $locals:ident $held:ident $cells:ident $holders:ident $left:ident $out:ident) $monitor:ident) => {{
+        let index = monitor_index($program, $monitor);
+        if $held[index] {
             Next::Ends(trapped(Trap::Again, $pc))
-        } else {
+        } else if $left == 0 || !is_free_for($thread, $holders[index]) {
             Next::Stands
+        } else {
+            $holders[index] = Some($thread);
+            $held[index] = true;
+            Next::Passes
         }
-    };
-    (Exit ($program:ident $pc:ident $words:ident $top:ident $locals:ident $held:ident $cells:ident $left:ident $out:ident) $monitor:ident) => {
-        if $held[monitor_index($program, $monitor)] {
-            Next::Stands
-        } else {
+    }};
+    (Exit ($program:ident $thread:ident $pc:ident $words:ident $top:ident $locals:ident $held:ident $cells:ident $holders:ident $left:ident $out:ident) $monitor:ident) => {{
+        let index = monitor_index($program, $monitor);
+        if !$held[index] {
             Next::Ends(trapped(Trap::NotHeld, $pc))
+        } else if $left == 0 {
+            Next::Stands
+        } else {
+            $holders[index] = None;
+            $held[index] = false;
+            Next::Passes
         }
-    };
+    }};
 }
 
 macro_rules! prints {
-    (Print ($program:ident $pc:ident $words:ident $top:ident $locals:ident $held:ident $cells:ident $left:ident $out:ident) $value:ident) => {{
+    (Print ($program:ident $thread:ident $pc:ident $words:ident $top:ident $locals:ident $held:ident $cells:ident $holders:ident $left:ident $out:ident) $value:ident) => {{
         push_line($out, $top.pop($words));
         Next::Goes($pc + 1)
     }};
 }
 
 macro_rules! halts {
-    (Halt ($program:ident $pc:ident $words:ident $top:ident $locals:ident $held:ident $cells:ident $left:ident $out:ident) $value:ident) => {
+    (Halt ($program:ident $thread:ident $pc:ident $words:ident $top:ident $locals:ident $held:ident $cells:ident $holders:ident $left:ident $out:ident) $value:ident) => {
         Next::Ends(end_of_halt($held, $pc))
     };
 }
@@ -539,6 +550,16 @@ fn monitor_index(program: &Checked, monitor: u32) -> usize
     monitor as usize
 }
 
+// Whether no other thread than this one is the holder.
+fn is_free_for(thread: u8, holder: Option<u8>) -> bool
+    ensures { result ≡ free_for thread holder }
+{
+    match holder {
+        None => true,
+        Some(other) => other == thread,
+    }
+}
+
 // Makes an update of this cell, and tells the value that it had.
 #[inline(always)]
 fn update(cells: &mut [u64], cell: u32, change: Change) -> u64
@@ -551,18 +572,20 @@ fn update(cells: &mut [u64], cell: u32, change: Change) -> u64
     old
 }
 
-/// Executes a local instruction, or an access where so many turns are left that there is one, or tells of a shared one, at
-/// which the thread stands.
+/// Executes a local instruction, or a shared one where a turn is left and the thread may go on there, or tells of a shared
+/// one, at which the thread stands.
 #[inline(always)]
 pub fn execute(
     op: &Op,
     program: &Checked,
+    thread: u8,
     pc: u32,
     words: &mut [u64; STACK_LIMIT],
     top: &mut Top,
     locals: &mut [u64; LOCAL_COUNT],
-    held: &[bool; MONITOR_LIMIT],
+    held: &mut [bool; MONITOR_LIMIT],
     cells: &mut [u64],
+    holders: &mut [Option<u8>],
     left: u32,
     out: &mut List<u8>,
 ) -> Next
@@ -572,10 +595,12 @@ pub fn execute(
     requires names { Names program.now op.now }
     requires spare { LINE_LIMIT ≤ out.old.spare }
     requires cells { 0 < left → cell_count program.now.decls ≤ length cells.old }
-    ensures done { Executed program.now op.now (row program.now op.now pc (operands words.old top.old.depth) locals.old held.now) held.now left result
-        (operands words.old top.old.depth) (operands words.new top.new.depth) locals.old locals.new cells.old cells.new out.old out.new }
+    requires holders { 0 < left → length holders.old ≡ MONITOR_LIMIT }
+    ensures done { Executed program.now thread op.now (row program.now op.now pc (operands words.old top.old.depth) locals.old held.old) left result
+        (parts (operands words.old top.old.depth) locals.old held.old cells.old holders.old out.old)
+        (parts (operands words.new top.new.depth) locals.new held.new cells.new holders.new out.new) }
 {
-    instructions!(arms!((program pc words top locals held cells left out) op))
+    instructions!(arms!((program thread pc words top locals held cells holders left out) op))
 }
 
 /// Where the thread stands at this instruction. One that is local or traps reads as if the thread had halted.

@@ -59,7 +59,7 @@ pub fn outputs_are_lines()
     ensures { OutputsAreLines }
 {}
 
-/// Turns of one thread in a row, each at a read, a write or an update, are turns of the machine.
+/// Turns of one thread in a row are turns of the machine, and where it may not go on then, it is not enabled.
 pub fn turns_in_a_row()
     ensures { TurnsInARow }
 {}

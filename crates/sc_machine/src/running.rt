@@ -6,6 +6,7 @@ ghost use Rattle.sc_machine.specs.Operands.{operands};
 ghost use Rattle.sc_machine.specs.ThreadStep.{done_held, done_stack};
 ghost use Rattle.sc_machine.specs.Running.{RanOn, RanTurns, going, thread_with};
 ghost use Rattle.sc_machine.specs.ThreadRunInside.{IsRun};
+ghost use Rattle.sc_machine.specs.TurnsInARow.{beside};
 
 use crate::end::End;
 use crate::instruction::{Next, execute, finish};
@@ -57,25 +58,25 @@ pub fn run_on(
     from: Cursor,
     words: &mut [u64; STACK_LIMIT],
     locals: &mut [u64; LOCAL_COUNT],
-    held: &[bool; MONITOR_LIMIT],
+    held: &mut [bool; MONITOR_LIMIT],
     out: &mut List<u8>,
 ) -> (Cursor, Option<End>)
     requires run { IsRun task.program.now task.thread task.fuel from.pc from.top.depth from.made None }
     requires spare { LINE_LIMIT * (task.fuel - from.made) ≤ out.old.spare }
     ensures ran { RanOn task.entry.program.now task.entry.fuel task.entry.thread
-        (going from words.old locals.old held.now out.old.items)
-        (thread_with result.1 result.0 words.new locals.new held.now out.new.items) }
+        (going from words.old locals.old held.old out.old.items)
+        (thread_with result.1 result.0 words.new locals.new held.new out.new.items) }
     ensures run { IsRun task.entry.program.now task.entry.thread task.entry.fuel result.0.pc result.0.top.depth result.0.made result.1 }
     ensures made { from.made ≤ result.0.made }
     ensures spare { LINE_LIMIT * (task.entry.fuel - result.0.made) ≤ out.new.spare }
     ensures used { out.new.spare + length out.new.items ≡ out.old.spare + length out.old.items }
 {
-    let (at, _, ended) = run_turns(task, from, 0, words, locals, held, &mut [], out);
+    let (at, _, ended) = run_turns(task, from, 0, words, locals, held, &mut [], &mut [], out);
     (at, ended)
 }
 
-/// Makes local instructions from this place, and accesses to the cells while turns are left, up to where the thread stands
-/// then. It tells where that is, how many turns are left, and the end.
+/// Makes local instructions from this place, and shared ones while turns are left and the thread may go on, up to where it
+/// stands then. It tells where that is, how many turns are left, and the end.
 #[inline(always)]
 pub fn run_turns(
     task: Task<'_>,
@@ -83,22 +84,26 @@ pub fn run_turns(
     limit: u32,
     words: &mut [u64; STACK_LIMIT],
     locals: &mut [u64; LOCAL_COUNT],
-    held: &[bool; MONITOR_LIMIT],
+    held: &mut [bool; MONITOR_LIMIT],
     cells: &mut [u64],
+    holders: &mut [Option<u8>],
     out: &mut List<u8>,
 ) -> (Cursor, u32, Option<End>)
     requires run { IsRun task.program.now task.thread task.fuel from.pc from.top.depth from.made None }
     requires cells { 0 < limit → cell_count task.program.now.decls ≤ length cells.old }
+    requires holders { 0 < limit → length holders.old ≡ MONITOR_LIMIT }
     requires spare { LINE_LIMIT * (task.fuel - from.made) ≤ out.old.spare }
     ensures ran { RanTurns task.entry.program.now task.entry.fuel task.entry.thread limit result.1
-        (going from words.old locals.old held.now out.old.items) cells.old
-        (thread_with result.2 result.0 words.new locals.new held.now out.new.items) cells.new }
+        (going from words.old locals.old held.old out.old.items) cells.old holders.old
+        (beside cells.new holders.new (thread_with result.2 result.0 words.new locals.new held.new out.new.items)) }
     ensures run { IsRun task.entry.program.now task.entry.thread task.entry.fuel result.0.pc result.0.top.depth result.0.made result.2 }
     ensures made { from.made ≤ result.0.made }
     ensures spare { LINE_LIMIT * (task.entry.fuel - result.0.made) ≤ out.new.spare }
     ensures used { out.new.spare + length out.new.items ≡ out.old.spare + length out.old.items }
     ensures whole { length cells.new ≡ length cells.old }
+    ensures monitors { length holders.new ≡ length holders.old }
 {
+    let thread = task.number();
     let mut at = from;
     let mut left = limit;
     'instructions: loop {
@@ -106,12 +111,14 @@ pub fn run_turns(
         match execute(
             op,
             task.program,
+            thread,
             at.pc,
             words,
             &mut at.top,
             locals,
             held,
             cells,
+            holders,
             left,
             out,
         ) {

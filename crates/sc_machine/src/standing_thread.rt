@@ -15,7 +15,7 @@ use std::alloc::Global;
 use std::marker::Model;
 use stride_base::{List, NoMemory};
 use stride_isa::Checked;
-use stride_isa::limits::FUEL_LIMIT;
+use stride_isa::limits::{FUEL_LIMIT, MONITOR_LIMIT};
 
 /// One thread of a program at a shared instruction or at its end, with what it printed so far and room for all that it may
 /// print yet.
@@ -79,17 +79,19 @@ impl<'p> StandingThread<'p> {
         self.run.go_on(word, &mut self.printed);
     }
 
-    /// Takes up to this many turns of the thread in a row, each at an access to the cells, and tells how many: those before
-    /// the first stop that is no access.
-    pub fn turns(&mut self, limit: u32, cells: &mut [u64]) -> u32
-        requires { cell_count self.old.program.decls ≤ length cells.old }
+    /// Takes up to this many turns of the thread in a row, and tells how many: those before the first stop at which it may not
+    /// go on, since it has ended or another thread holds the monitor.
+    pub fn turns(&mut self, limit: u32, cells: &mut [u64], holders: &mut [Option<u8>]) -> u32
+        requires cells { cell_count self.old.program.decls ≤ length cells.old }
+        requires holders { length holders.old ≡ MONITOR_LIMIT }
         ensures turns { TookTurns self.old.program self.old.fuel self.old.number limit result
-            (beside cells.old self.old.state) (beside cells.new self.new.state) }
+            (beside cells.old holders.old self.old.state) (beside cells.new holders.new self.new.state) }
         ensures stood { now self.old.program self.old.number self.old.state ≡ Stands (stop_here self.old) }
         ensures same { IsThreadOf self.old.program self.old.fuel self.old.number self.new }
         ensures cells { length cells.new ≡ length cells.old }
+        ensures holders { length holders.new ≡ length holders.old }
     {
-        self.run.turns(limit, cells, &mut self.printed)
+        self.run.turns(limit, cells, holders, &mut self.printed)
     }
 
     /// Ends the thread at the shared instruction where it stands. The instruction is not counted.

@@ -40,6 +40,16 @@ impl<'p> Task<'p> {
         }
     }
 
+    /// The thread's number as it stands among the holders of monitors.
+    #[inline(always)]
+    pub fn number(&self) -> u8
+        ensures { result ≡ self.now.thread }
+    {
+        // A program has no more than 16 threads.
+        self.program.facts();
+        self.thread as u8
+    }
+
     /// The instruction at a position.
     #[inline(always)]
     pub fn op(&self, at: u32) -> &'p Op

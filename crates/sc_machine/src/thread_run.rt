@@ -132,20 +132,30 @@ impl<'p> ThreadRun<'p> {
         self.control.go_on(&mut self.frame, word, out);
     }
 
-    /// Takes up to this many turns of the thread, which stands, in a row, each at an access to the cells, and tells how many.
+    /// Takes up to this many turns of the thread, which stands, in a row, and tells how many: those before the first stop at
+    /// which it may not go on.
     #[inline(never)]
-    pub(crate) fn turns(&mut self, limit: u32, cells: &mut [u64], out: &mut List<u8>) -> u32
+    pub(crate) fn turns(
+        &mut self,
+        limit: u32,
+        cells: &mut [u64],
+        holders: &mut [Option<u8>],
+        out: &mut List<u8>,
+    ) -> u32
         requires stands { StandsAt self.old (stop_at self.old) }
         requires cells { cell_count self.old.program.decls ≤ length cells.old }
+        requires holders { length holders.old ≡ MONITOR_LIMIT }
         requires spare { LINE_LIMIT * (self.old.fuel - self.old.made) ≤ out.old.spare }
         ensures turns { TookTurns self.old.program self.old.fuel self.old.thread limit result
-            (beside cells.old (state self.old out.old.items)) (beside cells.new (state self.new out.new.items)) }
+            (beside cells.old holders.old (state self.old out.old.items)) (beside cells.new holders.new (state self.new out.new.items)) }
         ensures stands { StandsAt self.new (stop_at self.new) }
         ensures same { SameThread self.old self.new }
         ensures spare { LINE_LIMIT * (self.new.fuel - self.new.made) ≤ out.new.spare }
         ensures cells { length cells.new ≡ length cells.old }
+        ensures holders { length holders.new ≡ length holders.old }
     {
-        self.control.turns(&mut self.frame, limit, cells, out)
+        self.control
+            .turns(&mut self.frame, limit, cells, holders, out)
     }
 
     /// Ends the thread at the shared instruction where it stands. The instruction is not counted.

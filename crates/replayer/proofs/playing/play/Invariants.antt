@@ -1,14 +1,10 @@
-use Rattle.std.proofs.Common.{◌-◌, ◌≤◌, length, take}
-use Rattle.replayer.specs.Schedules.{IsRow, PlayedTo}
+use Rattle.std.proofs.Common.{◌-◌, length, take}
+use Rattle.replayer.specs.Schedules.{PlayedTo}
 use Rattle.replayer.proofs.playing.play.Given as goal
 
--- the members so far were played, and where a row was begun, the others of it are next
+-- the members so far were played
 abbrev pub invariant-loop-place : goal.invariant-loop-place
-invariant-loop-place l = record {
-  played : PlayedTo l.fn.table l.table (take l.place l.schedule);
-  within : l.end ≤ length l.schedule;
-  row : IsRow l.schedule l.place l.end;
-}
+invariant-loop-place l = PlayedTo l.fn.table l.table (take l.place l.schedule)
 
 abbrev pub decreases-loop-place : goal.decreases-loop-place
 decreases-loop-place l = length l.schedule - l.place

@@ -13,13 +13,14 @@ abbrev pub invariant-instructions : goal.invariant-instructions
 invariant-instructions l = record {
   run : IsRun l.task.program.now l.task.thread l.task.fuel l.at.pc l.at.top.depth l.at.made None;
   turning : Turning l.task.program.now l.task.fuel l.task.thread l.limit l.left
-      (beside l.initial.cells (settled l.task.program.now l.task.fuel l.task.thread (going l.initial.at l.initial.words l.initial.locals l.held l.initial.out.items)))
-      (going l.at l.words l.locals l.held l.out.items) l.cells;
+      (beside l.initial.cells l.initial.holders (settled l.task.program.now l.task.fuel l.task.thread (going l.initial.at l.initial.words l.initial.locals l.initial.held l.initial.out.items)))
+      (going l.at l.words l.locals l.held l.out.items) l.cells l.holders;
   made : l.initial.at.made ≤ l.at.made;
   spare : line_limit * (l.task.fuel - l.at.made) ≤ l.out.spare;
   used : l.out.spare + length l.out.items ≡ l.initial.out.spare + length l.initial.out.items;
   whole : length l.words ≡ stack_limit;
   long : length l.cells ≡ length l.initial.cells;
+  monitors : length l.holders ≡ length l.initial.holders;
 }
 
 abbrev pub decreases-instructions : goal.decreases-instructions
