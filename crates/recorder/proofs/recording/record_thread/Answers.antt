@@ -23,7 +23,7 @@ pub instructions-preserved-in-Read : goal.instructions-preserved-in-Read
 instructions-preserved-in-Read g c =
     let event : Event = events.Read c.in-Read.cell c.read-value.result.0 c.read-value.result.1 in
     record {
-          pass = c.read-value.ensures.pass;
+      pass = c.read-value.ensures.pass;
       under_way = goes_on c.args.run.program c.args.run.fuel c.args.thread (view_of c.args.pass.now) (run_of c.instructions.control c.instructions.frame) (run_of c.local.new.self c.local.new.frame) c.instructions.out c.local.new.out c.instructions.log c.instructions.turns (view_of c.instructions.pass) c.instructions.invariant.under_way c.local.ensures.state c.local.ensures.same c.local.ensures.made
           (c.in-Read.ensures.fuel_left tt) (stops.Read c.in-Read.cell) (sym c.local.ensures.stop ∙ c.in-Read.is) event refl (view_of c.read-value.new.pass) c.read-value.ensures.event c.push_spare.new.self c.push_spare.ensures.items (room_kept c.instructions.log c.push_spare.new.self (entries.Read c.read-value.result.1 c.read-value.result.0) c.push_spare.ensures.items c.push_spare.ensures.spare)
           c.instructions.turns refl (λ m. refl) c.walks_go_on.ensures (run_of c.answer.new.self c.answer.new.frame) c.answer.ensures.state c.answer.ensures.made c.answer.ensures.same c.local.ensures.spare;
@@ -33,7 +33,7 @@ pub instructions-preserved-in-Write : goal.instructions-preserved-in-Write
 instructions-preserved-in-Write g c =
     let event : Event = events.Write c.in-Write.cell c.in-Write.value c.write-number.result in
     record {
-          pass = c.write-number.ensures.pass;
+      pass = c.write-number.ensures.pass;
       under_way = goes_on c.args.run.program c.args.run.fuel c.args.thread (view_of c.args.pass.now) (run_of c.instructions.control c.instructions.frame) (run_of c.local.new.self c.local.new.frame) c.instructions.out c.local.new.out c.instructions.log c.instructions.turns (view_of c.instructions.pass) c.instructions.invariant.under_way c.local.ensures.state c.local.ensures.same c.local.ensures.made
           (c.in-Write.ensures.fuel_left tt) (stops.Write c.in-Write.cell c.in-Write.value) (sym c.local.ensures.stop ∙ c.in-Write.is) event refl (view_of c.write-number.new.pass) c.write-number.ensures.event c.push_spare-in-Write.new.self c.push_spare-in-Write.ensures.items (room_kept c.instructions.log c.push_spare-in-Write.new.self (entries.Write c.write-number.result) c.push_spare-in-Write.ensures.items c.push_spare-in-Write.ensures.spare)
           c.instructions.turns refl (λ m. refl) c.walks_go_on.ensures (run_of c.answer-in-Write.new.self c.answer-in-Write.new.frame) c.answer-in-Write.ensures.state c.answer-in-Write.ensures.made c.answer-in-Write.ensures.same c.local.ensures.spare;
@@ -43,7 +43,7 @@ pub instructions-preserved-in-Update : goal.instructions-preserved-in-Update
 instructions-preserved-in-Update g c =
     let event : Event = events.Update c.in-Update.cell c.update-old.result.0 (applied c.in-Update.change c.update-old.result.0) c.update-old.result.1 in
     record {
-          pass = c.update-old.ensures.pass;
+      pass = c.update-old.ensures.pass;
       under_way = goes_on c.args.run.program c.args.run.fuel c.args.thread (view_of c.args.pass.now) (run_of c.instructions.control c.instructions.frame) (run_of c.local.new.self c.local.new.frame) c.instructions.out c.local.new.out c.instructions.log c.instructions.turns (view_of c.instructions.pass) c.instructions.invariant.under_way c.local.ensures.state c.local.ensures.same c.local.ensures.made
           (c.in-Update.ensures.fuel_left tt) (stops.Update c.in-Update.cell c.in-Update.change) (sym c.local.ensures.stop ∙ c.in-Update.is) event refl (view_of c.update-old.new.pass) c.update-old.ensures.event c.push_spare-in-Update.new.self c.push_spare-in-Update.ensures.items (room_kept c.instructions.log c.push_spare-in-Update.new.self (entries.Update c.update-old.result.1 c.update-old.result.0) c.push_spare-in-Update.ensures.items c.push_spare-in-Update.ensures.spare)
           c.instructions.turns refl (λ m. refl) c.walks_go_on.ensures (run_of c.answer-in-Update.new.self c.answer-in-Update.new.frame) c.answer-in-Update.ensures.state c.answer-in-Update.ensures.made c.answer-in-Update.ensures.same c.local.ensures.spare;
@@ -53,7 +53,7 @@ pub instructions-preserved-in-Some : goal.instructions-preserved-in-Some
 instructions-preserved-in-Some g c =
     let event : Event = events.Enter c.in-Enter.mon c.in-Some.turn in
     record {
-          pass = c.enter.ensures.pass;
+      pass = c.enter.ensures.pass;
       under_way = goes_on c.args.run.program c.args.run.fuel c.args.thread (view_of c.args.pass.now) (run_of c.instructions.control c.instructions.frame) (run_of c.local.new.self c.local.new.frame) c.instructions.out c.local.new.out c.instructions.log c.instructions.turns (view_of c.instructions.pass) c.instructions.invariant.under_way c.local.ensures.state c.local.ensures.same c.local.ensures.made
           (c.in-Enter.ensures.fuel_left tt) (stops.Enter c.in-Enter.mon) (sym c.local.ensures.stop ∙ c.in-Enter.is) event refl (view_of c.enter.new.pass) c.in-Some.ensures.entered c.push_spare-in-Some.new.self c.push_spare-in-Some.ensures.items (room_kept c.instructions.log c.push_spare-in-Some.new.self (entries.Enter c.in-Some.turn) c.push_spare-in-Some.ensures.items c.push_spare-in-Some.ensures.spare)
           (slice_set c.instructions.turns c.in-Enter.mon c.in-Some.turn) (length-set c.instructions.turns c.in-Enter.mon c.in-Some.turn) (turn_kept c.instructions.turns c.in-Enter.mon c.in-Some.turn (omega (arith, (c.in-Enter.ensures.names_cell).1, c.instructions.invariant.under_way.recorded.turns_count))) c.walks_go_on.ensures (run_of c.answer-in-Some.new.self c.answer-in-Some.new.frame) c.answer-in-Some.ensures.state c.answer-in-Some.ensures.made c.answer-in-Some.ensures.same c.local.ensures.spare;
@@ -63,7 +63,7 @@ pub instructions-preserved : goal.instructions-preserved
 instructions-preserved g c =
     let event : Event = events.Exit c.in-Exit.mon (slice_index c.instructions.turns c.in-Exit.mon) in
     record {
-          pass = c.leave.ensures.pass;
+      pass = c.leave.ensures.pass;
       under_way = goes_on c.args.run.program c.args.run.fuel c.args.thread (view_of c.args.pass.now) (run_of c.instructions.control c.instructions.frame) (run_of c.local.new.self c.local.new.frame) c.instructions.out c.local.new.out c.instructions.log c.instructions.turns (view_of c.instructions.pass) c.instructions.invariant.under_way c.local.ensures.state c.local.ensures.same c.local.ensures.made
           (c.in-Exit.ensures.fuel_left tt) (stops.Exit c.in-Exit.mon) (sym c.local.ensures.stop ∙ c.in-Exit.is) event (exit_met c.args.run.program c.args.run.fuel c.args.thread (view_of c.args.pass.now) (run_of c.instructions.control c.instructions.frame) (run_of c.local.new.self c.local.new.frame) c.instructions.out c.local.new.out c.instructions.log c.instructions.turns (view_of c.instructions.pass) c.instructions.invariant.under_way c.local.ensures.state c.local.ensures.same c.local.ensures.made
           c.in-Exit.mon (sym c.local.ensures.stop ∙ c.in-Exit.is)) (view_of c.leave.new.pass) c.leave.ensures.event c.instructions.log refl (omega arith)
