@@ -14,10 +14,6 @@ same_live true false is = absurd (cc)
 same_live false true is = absurd (cc)
 same_live false false is = refl
 
-tail_of : List Word → List Word
-tail_of [] = []
-tail_of (word ∷ words) = words
-
 module _ (words : List Word) (word : Word) (live : Bool) (is : words ≡ codes "demo" ∷ word ∷ live_words live) where
   -- words that begin with `demo` name no command but a demonstration
   only_demo : (command : Command) → Names command words → IsDemo word live command

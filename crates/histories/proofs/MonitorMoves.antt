@@ -22,10 +22,6 @@ MonitorMoves enters exits w w' has has' = Moves ((enters ≡ false) × (exits �
 pub monitor_back : (words : SharedWord → ℕ) (monitor at : ℕ) → put_word words (Monitor at) (words (Monitor at)) (Monitor monitor) ≡ words (Monitor monitor)
 monitor_back words monitor at = cond_both (monitor == at) (words (Monitor at)) (words (Monitor monitor)) (λ x. x ≡ words (Monitor monitor)) (λ e. ap (λ m. words (Monitor m)) (sym (eqb-true monitor at e))) (λ e. refl)
 
-not_both : (enters : Bool) → (if enters then false else false) ≡ false
-not_both true = refl
-not_both false = refl
-
 enters_it : (words : SharedWord → ℕ) (monitor at turn : ℕ) (held : List HeldTurn) (met_it : Bool) → (words (Monitor at) == 2 * turn) ≡ met_it → MonitorMoves (if met_it then monitor == at else false) false (words (Monitor monitor)) (put_word words (Monitor at) (either met_it (2 * turn + 1) (words (Monitor at))) (Monitor monitor)) (held_turn monitor held) (held_turn monitor (held_if met_it (record { mon = at; turn = turn + 1 }) held))
 enters_it words monitor at turn held false e = inl (monitor_back words monitor at, refl, (refl, refl))
 enters_it words monitor at turn held true e = elim (cases_eq monitor at) [

@@ -8,22 +8,22 @@ use linkage::links_or_refusal;
 use sc_machine::{outputs_are_lines, starts_settle, turns_are_steps};
 use stride_isa::each_cell_starts;
 
-/// No number or turn of the events of a history is used twice or left out, each read has a write of its value within its
-/// bound, and each update met the value of the write before it.
+/// No number or turn of the events of a history, all of cells and monitors that are there, is used twice or left out, each read has a
+/// write of its value within its bound, and each update met the value of the write before it.
 pub fn histories_are_linked()
     ensures { HistoriesAreLinked }
 {
     histories_have_chronicles();
 }
 
-/// With the links of the events of a history there is no cycle.
+/// With the links of the events of such a history there is no cycle.
 pub fn histories_are_ordered()
     ensures { HistoriesAreOrdered }
 {
     histories_have_chronicles();
 }
 
-/// The events of a history have links and a least schedule.
+/// The events of such a history have links and a least schedule.
 pub fn histories_have_orders()
     ensures { HistoriesHaveOrders }
 {

@@ -39,9 +39,6 @@ level a b o n up down = (grind arith, grind arith)
 reached : (a b o n : ℕ) → a ≡ o → b ≤ n → NotAfter o n a b → b ≡ n
 reached a b o n same most after = grind arith
 
-not_earlier : (o n a b : ℕ) → a < o → NotAfter o n a b → ⊥
-not_earlier o n a b less after = grind arith
-
 at_most : (c d a b : ℕ) → NotAfter c d a b → c ≤ a
 at_most c d a b up = grind arith
 

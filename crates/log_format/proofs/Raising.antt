@@ -22,13 +22,6 @@ pub record IsRaising (wrong : Fault) (bytes : List ℕ) (turn number weight : �
   pub within : IsBytes rest
   pub same : (groups_at wrong (8 - turn) rest >>= above number weight) ≡ groups_at wrong 8 bytes
 
-whole : (r : Result (ℕ × List ℕ) Fault) → (r >>= above 0 1) ≡ r
-whole (Ok x) = (let one : 0 + 1 * x.0 ≡ x.0 = omega arith in ap (λ n. Ok (n, x.1)) one)
-whole (Err d) = refl
-
-pub raising_start : (wrong : Fault) (bytes : List ℕ) → IsBytes bytes → IsRaising wrong bytes 0 0 1 bytes
-raising_start wrong bytes fits = record { power = refl; below = omega arith; within = fits; same = whole (groups_at wrong 8 bytes) }
-
 -- nothing is left
 raising_short : (wrong : Fault) (bytes : List ℕ) (turn number weight : ℕ) (rest : List ℕ) (d : Fault) → IsRaising wrong bytes turn number weight rest → byte_at rest ≡ Err d → groups_at wrong 8 bytes ≡ Err d
 unfolding groups_at
@@ -92,17 +85,6 @@ raising_on wrong bytes turn number weight rest byte after low more r e many is =
           ∙ opened wrong bytes turn number weight rest byte after more r e;
     }
 
-pub raising_end : (wrong : Fault) (bytes : List ℕ) (turn number weight : ℕ) (rest : List ℕ) (d : Fault) → turn ≡ 8 → IsRaising wrong bytes turn number weight rest → groups_at wrong 0 rest ≡ Err d → groups_at wrong 8 bytes ≡ Err d
-raising_end wrong bytes turn number weight rest d end r e =
-    let none : 0 ≡ 8 - turn = omega arith in
-    sym r.same ∙ ap (λ m. groups_at wrong m rest >>= above number weight) (sym none) ∙ ap (λ g. g >>= above number weight) e
-
-pub raising_done : (wrong : Fault) (bytes : List ℕ) (turn number weight : ℕ) (rest after : List ℕ) → turn ≡ 8 → IsRaising wrong bytes turn number weight rest → groups_at wrong 0 rest ≡ Ok (1, after) → groups_at wrong 8 bytes ≡ Ok (number + weight, after)
-raising_done wrong bytes turn number weight rest after end r e =
-    let none : 0 ≡ 8 - turn = omega arith in
-    let one : number + weight * 1 ≡ number + weight = omega arith in
-    sym r.same ∙ ap (λ m. groups_at wrong m rest >>= above number weight) (sym none) ∙ ap (λ g. g >>= above number weight) e ∙ ap (λ n. Ok (n, after)) one
-
 -- how great the number can be with one group more
 pub raising_small : (wrong : Fault) (bytes : List ℕ) (turn number weight : ℕ) (rest : List ℕ) (group : ℕ) → IsRaising wrong bytes turn number weight rest → turn < 8 → group < 128 → number + weight * group < 2 ^ 56
 raising_small wrong bytes turn number weight rest group r more small =
@@ -110,10 +92,3 @@ raising_small wrong bytes turn number weight rest group r more small =
     let few : turn ≤ 7 = omega arith in
     let power : 128 ^ turn ≤ 128 ^ 7 = pow-le-pow_right {n = 128} (omega arith) few in
     omega (arith, r.below, r.power, power, most)
-
--- how great it can be before the last group that can come
-pub raising_small_end : (wrong : Fault) (bytes : List ℕ) (turn number weight : ℕ) (rest : List ℕ) → IsRaising wrong bytes turn number weight rest → turn ≤ 8 → (number < weight) × (weight ≤ 2 ^ 56)
-raising_small_end wrong bytes turn number weight rest r more =
-    let few : turn ≤ 8 = omega arith in
-    let power : 128 ^ turn ≤ 128 ^ 8 = pow-le-pow_right {n = 128} (omega arith) few in
-    (r.below, omega (arith, r.power, power))

@@ -5,12 +5,11 @@ use Rattle.interleavings.specs.declared.activity.Activity.{Activity}
 use Rattle.interleavings.specs.declared.activity.Phase.TheVariants.{Idle, Looked}
 use Rattle.interleavings.specs.declared.event.Event.TheVariants as events
 use Rattle.interleavings.specs.declared.kind.Kind.TheVariants as by
-use Rattle.interleavings.specs.AtomicStep.{activity_after, entered_if, held_if, held_turn, is_even, looked, phase_if, turn_in, turn_or_zero, with_event}
+use Rattle.interleavings.specs.AtomicStep.{activity_after, entered_if, held_if, is_even, looked, phase_if, turn_in, with_event}
 use Rattle.shared_rule.specs.declared.view.View.{View}
 use Rattle.shared_rule.specs.Passes.{HasFinished, IsSameBeside}
 use Rattle.shared_rule.specs.Plays.{IsHalf, Makes}
-use Rattle.shared_rule.specs.Views.{view_after}
-use Rattle.monitors.specs.Turns.{HasLooked, HasMissed, IsEntered, activity_looked}
+use Rattle.monitors.specs.Turns.{HasMissed, IsEntered, activity_looked}
 
 -- a look that met this word, by what it answers
 looked_activity : (monitor met : ℕ) (result : Option ℕ) (a : Activity) → IsHalf result met → activity_after by.Look monitor 0 a met ≡ activity_looked monitor result a
@@ -21,17 +20,6 @@ looked_activity monitor met (Some turn) a is =
     ∙ ap (λ n. record { name = a.name; phase = Looked monitor n; events = a.events; held = a.held; looks = None }) half
 looked_activity monitor met None a odd =
     ap (λ b. record { name = a.name; phase = phase_if b (Looked monitor (met / 2)) Idle; events = a.events; held = a.held; looks = looked b monitor a.looks }) odd
-
-pub look_left : (monitor : ℕ) (result : Option ℕ) (before now : View) → (met : ℕ) × Makes by.Look monitor 0 before met now × IsHalf result met → HasLooked monitor result before now
-look_left monitor result before now step = record {
-  activity = ap (λ (v : View). v.activity) step.1.view ∙ looked_activity monitor step.0 result before.activity step.2;
-  same = record {
-    live = ap (λ (v : View). v.live) step.1.view;
-    gathered = ap (λ (v : View). v.gathered) step.1.view;
-    starts = ap (λ (v : View). v.starts) step.1.view;
-    draws = ap (λ (v : View). v.draws) step.1.view;
-  };
-}
 
 -- what an entry leaves, by whether the monitor was as it was seen
 abbrev entry_activity : ℕ → ℕ → Activity → Bool → Activity
@@ -68,15 +56,3 @@ module _ (monitor seen met : ℕ) (before now : View) (makes : Makes by.Enter mo
     activity = entry_left ∙ ap (entry_activity monitor seen before.activity) (ne_eqb met (2 * seen) other);
     same = entry_same;
   }
-
-pub exit_left : (monitor turn : ℕ) (before now : View) → now ≡ view_after by.Leave monitor 0 before 0 → held_turn monitor before.activity.held ≡ Some turn → HasFinished (events.Exit monitor turn) before now
-exit_left monitor turn before now view holds = record {
-  activity = ap (λ (v : View). v.activity) view
-      ∙ ap (λ found. record (activity_after by.Leave monitor 0 before.activity 0) { events = with_event before.activity.events (Some (events.Exit monitor (turn_or_zero found))) }) holds;
-  same = record {
-    live = ap (λ (v : View). v.live) view;
-    gathered = ap (λ (v : View). v.gathered) view;
-    starts = ap (λ (v : View). v.starts) view;
-    draws = ap (λ (v : View). v.draws) view;
-  };
-}

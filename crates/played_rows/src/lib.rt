@@ -1,7 +1,7 @@
 //! Tests of `follow`, and nothing else. Nothing stands on this crate.
 //!
 //! `plain_machine` is a plain, slow machine that is written from the language's description; what it makes of programs and orders
-//! is compared with what `follow` makes of them (`played_rows`, `drawn_rows`).
+//! is compared with what `follow` makes of them (`playing_rows`, `drawn_rows`).
 #![tactic(auto)]
 
 #[cfg(test)]

@@ -46,12 +46,6 @@ beside before now next first second = record {
   draws = second.draws ∙ first.draws;
 }
 
-pub looking_first : (monitor : ℕ) (v : View) → v.activity.phase ≡ Idle → v.activity.looks ≡ None → IsLooking monitor 0 v v
-looking_first monitor v idle calm = record {
-  activity = ap (λ phase. looking v.activity phase v.activity.looks) idle ∙ ap (looking v.activity Idle) calm;
-  same = record { live = refl; gathered = refl; starts = refl; draws = refl };
-}
-
 module _ (monitor count : ℕ) (before now : View) (is : IsLooking monitor count before now) where
   pub looking_ready : IsReady before → IsReady now
   looking_ready ready = record {

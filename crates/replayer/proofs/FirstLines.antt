@@ -53,10 +53,6 @@ fewer_left (byte ∷ bytes) more some is_more =
     let remain = ap length is_more ∙ length-drop (line_length (byte ∷ bytes)) (byte ∷ bytes) in
     omega (arith, some, taken, remain)
 
--- how far a line goes from a place of it
-pub line_goes : (bytes : List ℕ) (at byte : ℕ) (rest : List ℕ) (ends : Bool) → drop at bytes ≡ byte ∷ rest → (byte == 10) ≡ ends → at + line_length (drop at bytes) ≡ at + cond ends 1 (line_length rest + 1)
-line_goes bytes at byte rest ends left is = ap (λ bs. at + line_length bs) left ∙ ap (λ b. at + cond b 1 (line_length rest + 1)) is
-
 -- bytes that are not none
 pub some_left : (bytes : List ℕ) → (length bytes == 0) ≡ false → 0 < length bytes
 some_left [] some = absurd (cc)

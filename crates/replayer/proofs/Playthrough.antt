@@ -1,7 +1,6 @@
 -- The loop over a schedule.
-use Rattle.std.proofs.Common.{◌≡◌, ◌≢◌, ℕ, zero, suc, ◌+◌, ◌-◌, ◌<◌, ◌≤◌, ◌∙◌, ◌++◌, inl, inr, false, List, [], ◌∷◌, length, take, refl, sym, ap, slice_index, append_assoc, append-nil, arith}
+use Rattle.std.proofs.Common.{◌≡◌, ℕ, zero, suc, ◌+◌, ◌-◌, ◌<◌, ◌≤◌, ◌∙◌, ◌++◌, false, List, [], ◌∷◌, length, take, refl, sym, ap, slice_index, append_assoc, append-nil, arith}
 use Rattle.std.specs.Prelude.{option_and_then}
-use Rattle.std.proofs.lemmas.Bool.Decides.{eqb_tells}
 use Rattle.std.proofs.lemmas.List.{replicate_more, take_more}
 use Rattle.std.proofs.Math.ListN.{replicate}
 use Rattle.sc_machine.specs.Laws.{RefusedAlongTurns, TurnsJoin}
@@ -61,10 +60,3 @@ row_refused refuses joins first here next schedule place end taken before within
     let same = row (place + taken) (omega arith) short in
     let told = refuses first.program.now first.fuel schedule (place + taken) took.machine (omega (arith, within, short)) rest.reached (ap (λ t. can first.program.now t took.machine) same ∙ stuck) in
     record { first = told.0; no_run = told.1 }
-
--- a row with one member more
-pub row_longer : (schedule : List ℕ) (place end : ℕ) → IsRow schedule place end → slice_index schedule end ≡ slice_index schedule place → IsRow schedule place (end + 1)
-row_longer schedule place end row same k from lt = elim (eqb_tells k end) [
-  | inl is ↦ ap (slice_index schedule) is.1 ∙ same
-  | inr other ↦ let differ : k ≢ end = other.1 in row k from (omega (arith, lt))
-]

@@ -65,9 +65,3 @@ not_refused limits (Demo number) p fault is = let e = ap (λ (answer : Answer). 
 by_verdict : OneVerdict → (limits : Limits) (live : Live) (bytes : List ℕ) (p : Listing) (fault : ProgramFault) → IsValid p → (verdict : Option Fault) → IsVerdict p verdict → AnswersVerdict bytes verdict (AnswersLive limits live p) (refused (statuses.Program fault)) → ⊥
 by_verdict law limits live bytes p fault valid (Some first) judged is = let e = law p None (Some first) valid judged in cc
 by_verdict law limits live bytes p fault valid None judged is = not_refused limits live p fault is
-
-pub program_not_refused : OneVerdict → (limits : Limits) (live : Live) → live_reads live ≡ true → (bytes : List ℕ) (p : Listing) (fault : ProgramFault) → spelled bytes ≡ Ok p → IsValid p → AnswersLiveInput limits live bytes (refused (statuses.Program fault)) → ⊥
-program_not_refused law limits live reads bytes p fault spells valid is =
-    let Q : Result Listing LineFault → Type 0 = λ s. AnswersProgram bytes s (AnswersLive limits live) (refused (statuses.Program fault)) in
-    let answered = subst Q spells (to_text limits live bytes (refused (statuses.Program fault)) reads is) in
-    by_verdict law limits live bytes p fault valid answered.0 answered.1.0 answered.1.1

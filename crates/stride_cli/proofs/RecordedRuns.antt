@@ -3,7 +3,7 @@ use Rattle.std.proofs.Common.{◌≡◌, ◌∙◌, inl, inr, ℕ, ◌+◌, ◌�
 use Rattle.std.proofs.lemmas.List.{length-map}
 use Rattle.stride_isa.specs.Listing.{Listing}
 use Rattle.stride_isa.specs.Validity.{IsValid}
-use Rattle.assembler.specs.Programs.{LineFault, spelled}
+use Rattle.assembler.specs.Programs.{LineFault}
 use Rattle.interleavings.specs.declared.event.LogEntry.{LogEntry}
 use Rattle.interleavings.specs.declared.traces.Place.{Place}
 use Rattle.interleavings.specs.Following.{Divergence, Followed, follow_all}
@@ -14,19 +14,16 @@ use Rattle.event_order.specs.Laws.{ExtensionsAreWhole}
 use Rattle.history_laws.specs.Laws.{SchedulesReplayRecordings}
 use Rattle.history_laws.specs.RecordedRuns.{IsScheduleOf}
 use Rattle.replayer.specs.Replays.{Results}
-use Rattle.stride_cli.specs.declared.words.Live.TheVariants.{Run}
 use Rattle.stride_cli.specs.Again.{AreRecorded, IsLogged, IsRunAgain}
-use Rattle.stride_cli.specs.Answers.{done, setting_of}
+use Rattle.stride_cli.specs.Answers.{setting_of}
 use Rattle.stride_cli.specs.Headline.{IsRecordedRun, look_limit}
 use Rattle.stride_cli.specs.Inferring.{Inferred, IsInferred, IsInferredBy, IsInferredOf, Ordered}
-use Rattle.stride_cli.specs.LiveAnswers.{AnswersLiveInput}
-use Rattle.stride_cli.specs.LiveLooks.{LiveLooks, RunLooks}
+use Rattle.stride_cli.specs.LiveLooks.{RunLooks}
 use Rattle.stride_cli.specs.Looks.{followed_looks}
 use Rattle.stride_cli.specs.Playing.{IsPlayed, TellsSummary}
 use Rattle.stride_cli.specs.Reports.{replay_report, schedule_section, summary_report}
 use Rattle.stride_cli.specs.Runs.{run_section}
 use Rattle.stride_cli.specs.Settings.{Limits}
-use Rattle.stride_cli.proofs.LivePrograms.{to_program}
 
 some_same : {X : Type 0} {x y : X} → Some x ≡ Some y → x ≡ y
 some_same e = cc
@@ -94,22 +91,10 @@ module _ (limits : Limits) (p : Listing) (logs : List (List LogEntry)) (traces :
       let R : TraceLists → Type 0 = λ traces. after ≤ before + look_limit (event_count traces) in
       inr (record { recording = logged.recording; recorded = logged.recorded; all = again.all; follows = follows; within = subst R again.traces_are looks })
 
--- the looks at a program are those at the text that spells it
-pub text_looks : (limits : Limits) (bytes : List ℕ) (p : Listing) (before after : ℕ) → spelled bytes ≡ Ok p → RunLooks limits (Ok p) before after → LiveLooks limits Run bytes before after
-text_looks limits bytes p before after spells is = let Q : Result Listing LineFault → Type 0 = λ s. RunLooks limits s before after in subst Q (sym spells) is
-
--- such a report is the answer
-pub run_answers : (limits : Limits) (bytes : List ℕ) (p : Listing) (report : List ℕ) (before after : ℕ) → spelled bytes ≡ Ok p → IsValid p → IsRecordedRun limits p replay_report report before after → AnswersLiveInput limits Run bytes (done report)
-run_answers limits bytes p report before after spells valid run =
-    to_program limits Run refl bytes p (done report) spells valid (record { recording = run.recording; recorded = run.recorded; schedule = run.schedule; inferred = run.inferred; machine = run.machine; runs = run.replay.runs; shows = ap done run.reported })
-
 -- where no look was taken
 unmoved : (limits : Limits) (s : Result Listing LineFault) (before after : ℕ) → after ≡ before → RunLooks limits s before after
 unmoved limits (Ok p) before after same = inl same
 unmoved limits (Err fault) before after same = same
-
-pub no_looks : (limits : Limits) (bytes : List ℕ) (before after : ℕ) → after ≡ before → LiveLooks limits Run bytes before after
-no_looks limits bytes before after same = unmoved limits (spelled bytes) before after same
 
 -- the summary of a recording's logs is that of its replay
 pub summary_run : SchedulesReplayRecordings → (limits : Limits) (p : Listing) (logs : List (List LogEntry)) (report : List ℕ) (before after : ℕ) → IsValid p → 1 ≤ limits.fuel → IsLogged limits p logs → TellsSummary p limits.fuel logs report before after

@@ -96,10 +96,6 @@ tells_logs p fuel logs traces inferred results report again played put =
       shows = shown ∙ append_assoc (logs_section logs) (links_section inferred.links) (schedule_section inferred.schedule ++ run_section (results_of p plays.machine));
     }
 
--- the share of logs that were followed
-pub again_looks : (p : Listing) (fuel : ℕ) (logs : List (List LogEntry)) (traces : TraceLists) → IsRunAgain p fuel logs traces → followed_looks printing_looks p (follow_all p fuel logs) ≡ printing_looks (event_count traces)
-again_looks p fuel logs traces again = ap (followed_looks printing_looks p) again.follows ∙ ap (λ (traces : TraceLists). printing_looks (event_count traces)) (sym again.traces_are)
-
 -- the report tells the summary of logs that were followed, linked, ordered and run
 pub tells_summary : ExtensionsAreWhole → (p : Listing) (fuel : ℕ) (logs : List (List LogEntry)) (traces : TraceLists) (inferred : Inferred) (results : Results) (report : List ℕ) (before after : ℕ) → IsRunAgain p fuel logs traces → IsPlayed p fuel traces inferred results
     → report ≡ summary_lines (length p.threads) (length inferred.schedule) (halted_count results.ends) (unwrap_or (slice_get results.last_values 0) 0) → after ≤ before + look_limit (event_count traces) → TellsSummary p fuel logs report before after

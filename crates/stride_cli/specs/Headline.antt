@@ -20,7 +20,7 @@ use Rattle.stride_cli.specs.Answers.{setting_of}
 use Rattle.stride_cli.specs.Reports.{replay_report, summary_report}
 use Rattle.stride_cli.specs.Settings.{Limits, demo_limits, limits_of}
 
--- how many looks at events and at their links are enough to link so many events and to find their schedule
+-- how many looks at events, at their links and at sorted writes are enough to link so many events and to find their schedule
 abbrev pub look_limit : ℕ → ℕ
 look_limit events = 128 * (events + 1)
 
@@ -55,7 +55,7 @@ pub record World : Type 0 where
   pub sink_faults : ℕ
   -- how many faults the source has met
   pub source_faults : ℕ
-  -- how many looks at events and links were counted
+  -- how many looks at events, links and sorted writes were counted
   pub looks : ℕ
 
 -- the report of the replay of a recording was put so

@@ -1,4 +1,4 @@
--- How many looks at events and links a command takes at most.
+-- How many looks at events, links and sorted writes a command takes at most.
 use Rattle.std.specs.Prelude.{ℕ, ◌+◌, ◌*◌, List, Option, Some, None, Result, Ok, Err}
 use Rattle.stride_isa.specs.Limits.{fuel_limit, thread_limit}
 use Rattle.stride_isa.specs.Listing.{Listing}

@@ -112,9 +112,9 @@ fn stride_by<R: Threads + Wait + Sync, S: Source, K: Sink, G: Gate, L: Ledger>(
     }
 }
 
-/// Does the command that the words name (the program's name is none of them): reads the whole input, where the command
-/// reads one, and puts the whole report only when it is made. `run`, `bundle` and a live demonstration run each thread of the program on a thread of its own, and may wait for them; the other commands
-/// are those of `offline`, start no thread, and always return.
+/// Does the command that the words name (the program's name is none of them): reads the whole input, where the command reads one,
+/// and puts the whole report only when it is made. `run`, `bundle` and a live demonstration run each thread of the program on a
+/// thread of its own, and may wait for them; the other commands are those of `offline`, start no thread, and always return.
 ///
 /// What is said of bytes holds where the source and the sink tell theirs.
 pub fn stride<R: Threads + Wait + Sync, S: Source, K: Sink, G: Gate, L: Ledger>(

@@ -1,15 +1,13 @@
 -- What failed tries to claim leave as it was, and what a claim changes.
-use Rattle.std.proofs.Common.{◌≡◌, ◌≢◌, ℕ, ◌*◌, ◌/◌, ◌%◌, ◌∙◌, true, false, List, [], ◌∷◌, ◌++◌, refl, sym, ap, subst, arith}
-use Rattle.std.specs.Prelude.{IsSome, length, ◌<◌}
+use Rattle.std.proofs.Common.{◌≡◌, ◌≢◌, ℕ, ◌*◌, ◌/◌, ◌%◌, ◌∙◌, true, false, List, [], ◌∷◌, ◌++◌, refl, sym, ap, arith}
 use Rattle.std.proofs.lemmas.Bool.{eq-eqb, ne_eqb}
 use Rattle.interleavings.specs.declared.activity.Activity.{Activity}
 use Rattle.interleavings.specs.declared.activity.Phase.{Phase}
 use Rattle.interleavings.specs.declared.activity.Phase.TheVariants.{Idle, Numbered, Marked}
 use Rattle.interleavings.specs.declared.kind.Kind.TheVariants as by
 use Rattle.interleavings.specs.AtomicStep.{is_even, phase_if, activity_after}
-use Rattle.shared_rule.specs.declared.limits.TheConstants.{EVENT_LIMIT}
 use Rattle.shared_rule.specs.declared.view.View.{View}
-use Rattle.shared_rule.specs.Passes.{IsReady, IsSameBeside}
+use Rattle.shared_rule.specs.Passes.{IsSameBeside}
 use Rattle.shared_rule.specs.Plays.{Makes}
 use Rattle.shared_rule.specs.Views.{view_after}
 use Rattle.write_turns.specs.Claiming.{Try, Odd, Lost, AreTries, after_try, after_tries, Takes, HasClaimed}
@@ -121,13 +119,6 @@ module _ (cell met n other : ℕ) (before now saw next : View) (idle : before.ac
     seen = seen_still;
     same = beside;
   }
-
-pub tried_ready : (cell : ℕ) (before now : View) → IsReady before → HasTried cell before now → IsReady now
-tried_ready cell before now ready tried = record {
-  idle = ap (λ (a : Activity). a.phase) tried.activity ∙ ready.idle;
-  named = subst (λ (a : Activity). IsSome a.name) (sym tried.activity) ready.named;
-  room = subst (λ (a : Activity). length a.events < EVENT_LIMIT) (sym tried.activity) ready.room;
-}
 
 -- tries before others
 tries_joined : (cell : ℕ) (v : View) (late early : List Try) → after_tries cell v (late ++ early) ≡ after_tries cell (after_tries cell v early) late
