@@ -23,6 +23,41 @@ fn ending_on<R: Threads + Wait + Sync>(
     ending_of(rt, alloc, &["run"], OWN_WRITE, devices, &OpenGate)
 }
 
+/// One thread that shares nothing.
+const ADDITION: &[u8] = b"thread\npush 18446744073709551615\npush 1\nadd\nprint\nhalt\n";
+
+#[test]
+fn a_fault_keeps_what_was_put(rt: HostRuntime) -> Result<(), Fail> {
+    for (failing_reads, failing_puts, code, held) in [
+        // Without a fault the report is longer than two calls take, so the faults below cut it off.
+        (
+            [].as_slice(),
+            [].as_slice(),
+            0,
+            b"schedule 0\ntranscript\n0 0\nends\n0 halted\n".as_slice(),
+        ),
+        (&[], &[2], 9, b"sche"),
+        (&[1], &[2], 2, b""),
+    ] {
+        let ending = ending_of(
+            &rt,
+            rt.alloc(),
+            &["run"],
+            ADDITION,
+            Devices {
+                failing_reads,
+                failing_puts,
+                per_call: 4,
+                room: 100,
+            },
+            &OpenGate,
+        )?;
+        assert_eq!(rt; ending.code, code);
+        assert!(rt; ending.held.as_slice() == held);
+    }
+    Ok(())
+}
+
 #[test]
 fn each_put_fails_in_turn(rt: HostRuntime) -> Result<(), Fail> {
     for failing in 1..=45u32 {

@@ -37,7 +37,26 @@ fn report_of<R: Threads + Wait + Sync, G: Gate>(
     })
 }
 
-// What a command puts under the gate that holds threads so, again and again.
+// What a command puts under the gate that holds threads so.
+fn is_put<R: Threads + Wait + Sync + Abort>(
+    rt: &R,
+    alloc: Global,
+    words: &[&str],
+    input: &[u8],
+    holds: &[Hold],
+    wanted: &[u8],
+) -> Result<(), Fail> {
+    let gate = Meeting::new(holds);
+    let report = report_of(rt, alloc, words, input, &gate)?;
+    assert!(rt; gate.succeeded());
+    let Some(report) = report else {
+        return Err("a live command is refused")?;
+    };
+    assert!(rt; report.as_slice() == wanted);
+    Ok(())
+}
+
+// The same, again and again.
 fn is_forced<R: Threads + Wait + Sync + Abort>(
     rt: &R,
     alloc: Global,
@@ -47,13 +66,7 @@ fn is_forced<R: Threads + Wait + Sync + Abort>(
     wanted: &[u8],
 ) -> Result<(), Fail> {
     for _ in 0..20u32 {
-        let gate = Meeting::new(holds);
-        let report = report_of(rt, alloc, words, input, &gate)?;
-        assert!(rt; gate.succeeded());
-        let Some(report) = report else {
-            return Err("a live command is refused")?;
-        };
-        assert!(rt; report.as_slice() == wanted);
+        is_put(rt, alloc, words, input, holds, wanted)?;
     }
     Ok(())
 }
@@ -112,21 +125,29 @@ fn gates_force_what_run_replays(rt: HostRuntime) -> Result<(), Fail> {
     )
 }
 
-/// The bundle of the two threads: the text behind its length, and then a read of this value with bound 1, and write 1.
-fn bundle_of(alloc: Global, value: u8) -> Result<Vec<u8>, Fail> {
+/// The bundle of a text with these logs: the text behind its length, and then the number of threads and the logs.
+fn bundle_of(alloc: Global, text: &[u8], logs: &[u8]) -> Result<Vec<u8>, Fail> {
+    if text.len() >= 128 {
+        return Err("a length of two bytes")?;
+    }
     let mut bytes = Vec::new(alloc);
     bytes.extend_from_slice(b"STRIDE2\n\xa0\x8d\x06")?;
-    bytes.push(READ_AND_WRITE.len() as u8)?;
-    bytes.extend_from_slice(READ_AND_WRITE)?;
-    bytes.extend_from_slice(&[2, 1, 1, value, 2, 1, 2, 1])?;
+    bytes.push(text.len() as u8)?;
+    bytes.extend_from_slice(text)?;
+    bytes.extend_from_slice(logs)?;
     Ok(bytes)
+}
+
+// The bundle of the two threads: a read of this value with bound 1, and write 1.
+fn read_and_write_bundle(alloc: Global, value: u8) -> Result<Vec<u8>, Fail> {
+    bundle_of(alloc, READ_AND_WRITE, &[2, 1, 1, value, 2, 1, 2, 1])
 }
 
 #[test]
 fn gates_force_what_bundle_logs(rt: HostRuntime) -> Result<(), Fail> {
     let alloc = rt.alloc();
-    let old = bundle_of(alloc, 0)?;
-    let new = bundle_of(alloc, 7)?;
+    let old = read_and_write_bundle(alloc, 0)?;
+    let new = read_and_write_bundle(alloc, 7)?;
     is_forced(
         &rt,
         alloc,
@@ -151,6 +172,77 @@ fn gates_force_what_bundle_logs(rt: HostRuntime) -> Result<(), Fail> {
         &reader_after(),
         &new,
     )
+}
+
+/// Updates that each make 7 of 3, and give the 3 that they met.
+const UPDATES: [&[u8]; 3] = [
+    b"push 7\nxchg x\n",
+    b"push 4\naddto x\n",
+    b"push 3\npush 7\ncas x\n",
+];
+
+/// Thread 0 reads and prints a variable and then writes it. Thread 1 updates it, and reads and prints it afterwards.
+fn beside_update(alloc: Global, update: &[u8]) -> Result<Vec<u8>, Fail> {
+    let mut text = Vec::new(alloc);
+    text.extend_from_slice(b"var x 3\nthread\nread x\nprint\npush 9\nwrite x\nhalt\nthread\n")?;
+    text.extend_from_slice(update)?;
+    text.extend_from_slice(b"print\nread x\nprint\nhalt\n")?;
+    Ok(text)
+}
+
+/// The reader loads the value while the update is held at this point, and finds the number odd. The write comes before the update's
+/// thread goes on.
+fn update_held(point: Point) -> [Hold; 3] {
+    [
+        hold(spot(0, Point::BeforeValue), spot(1, point)),
+        hold(spot(1, point), spot(0, Point::AfterOdd)),
+        hold(spot(1, Point::AfterTurn), spot(0, Point::AfterTurn)),
+    ]
+}
+
+/// The reader begins once the update is complete. The write comes before the update's thread goes on.
+fn update_complete() -> [Hold; 2] {
+    [
+        hold(spot(0, Point::BeforeValue), spot(1, Point::AfterTurn)),
+        hold(spot(1, Point::AfterTurn), spot(0, Point::AfterTurn)),
+    ]
+}
+
+// What both commands put of each update, where thread 0 reads this value.
+fn updates_are_forced<R: Threads + Wait + Sync + Abort>(
+    rt: &R,
+    alloc: Global,
+    holds: &[Hold],
+    value: u8,
+    report: &[u8],
+) -> Result<(), Fail> {
+    // A read of the value with bound 1, and write 2; update 1, which met 3, and a read of 9 with bound 2.
+    let logs = [2, 2, 1, value, 2, 2, 2, 2, 4, 3, 1, 1, 9, 4];
+    for update in UPDATES {
+        let text = beside_update(alloc, update)?;
+        let bundle = bundle_of(alloc, &text, &logs)?;
+        for _ in 0..4u32 {
+            is_put(rt, alloc, &["run"], &text, holds, report)?;
+            is_put(rt, alloc, &["bundle"], &text, holds, &bundle)?;
+        }
+    }
+    Ok(())
+}
+
+const OLD_OF_UPDATE: &[u8] =
+    b"schedule 4\n0*1\n1*1\n0*1\n1*1\ntranscript\n0 3\n1 3\n1 9\nends\n0 halted\n1 halted\n";
+
+const NEW_OF_UPDATE: &[u8] =
+    b"schedule 4\n1*1\n0*2\n1*1\ntranscript\n1 3\n0 7\n1 9\nends\n0 halted\n1 halted\n";
+
+#[test]
+fn gates_force_updates(rt: HostRuntime) -> Result<(), Fail> {
+    let alloc = rt.alloc();
+    let marked = update_held(Point::AfterMark);
+    updates_are_forced(&rt, alloc, &marked, 3, OLD_OF_UPDATE)?;
+    let stored = update_held(Point::AfterPut);
+    updates_are_forced(&rt, alloc, &stored, 7, NEW_OF_UPDATE)?;
+    updates_are_forced(&rt, alloc, &update_complete(), 7, NEW_OF_UPDATE)
 }
 
 /// Thread 0 writes a variable within a monitor, which thread 1 enters once it has read another.
